@@ -16,10 +16,10 @@
  * the linked allocator alone. tracebench_encoder, tracebench_push_all, tracebench_finish, tracebench_check_events,
  * tracebench_decoder, tracebench_resume and the calls for one packet, message or header take none, but for the list of
  * the pieces where there are two or more. Time grows with the bytes, events and payloads that are given and settled,
- * not with the image; and with the square of the number of pieces. tracebench_encode copies the image. Once a packet
- * is refused, the calls that salvage make a table of 4 bytes for each byte of it. No proof bounds the stack: over logs
- * of 200,000 rows and images of up to 16 MiB calls took at most 19 kB of it. The library is built for x86-64-v2,
- * 64-bit processors with SSE4.2 and POPCNT, and does not check for them. */
+ * not with the image; and with the square of the number of pieces. Once a packet is refused, the calls that salvage
+ * make a table of 4 bytes for each byte of it. No proof bounds the stack: over logs of 200,000 rows and images of up to
+ * 16 MiB calls took at most 19 kB of it. The library is built for x86-64-v2, 64-bit processors with SSE4.2 and POPCNT,
+ * and does not check for them. */
 #ifndef TRACEBENCH_H
 #define TRACEBENCH_H
 
@@ -606,7 +606,8 @@ uint32_t tracebench_list(const struct tracebench_piece *pieces, size_t pieces_le
  * the highest hart of a message, hart 0 at least. Statuses are those of tracebench_list. In `*ended` `place` is 0, and
  * `fault` is TRACEBENCH_SHORT or TRACEBENCH_BAD_HEADER where the capture begins as one of version 2 does and its
  * header is cut short or bad. `whole` is 1 if and only if `fault` is 0, each hart is closed, no number is missing,
- * bad, doubtful or alone, no message is of another hart, and each byte belongs to a message.
+ * bad, doubtful or alone, no message is of another hart, and each byte belongs to a message. A number that came too
+ * early to be believed is named as far, and no gap is counted before it.
  *     status = tracebench_salvage(&program, 1, TRACEBENCH_HARTS_SHOWN, capture, length, TRACEBENCH_SUMMARY, text,
  *                                 sizeof text, &wanted, &ended); */
 uint32_t tracebench_salvage(const struct tracebench_piece *pieces, size_t pieces_length, uint16_t harts,
@@ -615,8 +616,8 @@ uint32_t tracebench_salvage(const struct tracebench_piece *pieces, size_t pieces
 
 /* Writes what tracebench_salvage does with each message of a capture, as `tracebench list --salvage` prints it: where
  * the message is, what it says, and whether it adds events, is passed over, a copy, doubtful, alone, bad or a
- * stranger; and where bytes belong to no message. Symbols, formats and statuses are those of tracebench_list,
- * messages, `harts` and `*ended` those of tracebench_salvage. The messages are worked through twice.
+ * stranger, far or late; and where bytes belong to no message. Symbols, formats and statuses are those of
+ * tracebench_list, messages, `harts` and `*ended` those of tracebench_salvage. The messages are worked through twice.
  *     status = tracebench_list_salvaged(&program, 1, TRACEBENCH_HARTS_SHOWN, capture, length, symbols, 0,
  *                                       TRACEBENCH_CSV, text, sizeof text, &wanted, &ended); */
 uint32_t tracebench_list_salvaged(const struct tracebench_piece *pieces, size_t pieces_length, uint16_t harts,
@@ -624,11 +625,12 @@ uint32_t tracebench_list_salvaged(const struct tracebench_piece *pieces, size_t 
                                   size_t symbols_length, uint32_t format, uint8_t *buffer, size_t buffer_length,
                                   size_t *wanted, struct tracebench_text_end *ended);
 
-/* Writes how a capture compares with the logs of its harts, as `tracebench compare` prints it, without the rows below
- * a hart's line. `logs` and `ends` are those of tracebench_encode, and the harts those of tracebench_decode_all.
- * `*ended` is written; or `*place` where the status is TRACEBENCH_UNEQUAL_COUNTS, as there is not a log for each hart,
- * TRACEBENCH_MEMORY, says what is wrong with the pieces, or is of the first log that is no legal log, as with
- * tracebench_encode.
+/* Writes how a capture compares with the logs of its harts, as `tracebench compare` prints it: below the line of a hart
+ * that is not whole are the first row in which its log and what is decoded differ, of both, and the message of the
+ * capture that settles it, closes the hart, stops decoding, or is the hart's last. `logs` and `ends` are those of
+ * tracebench_encode, and the harts those of tracebench_decode_all. `*ended` is written; or `*place` where the status is
+ * TRACEBENCH_UNEQUAL_COUNTS, as there is not a log for each hart, TRACEBENCH_MEMORY, says what is wrong with the
+ * pieces, or is of the first log that is no legal log, as with tracebench_encode.
  *     status = tracebench_compare(&program, 1, 2, capture, length, logs, logs_length, ends, 2, text, sizeof text,
  *                                 &wanted, &ended, &place); */
 uint32_t tracebench_compare(const struct tracebench_piece *pieces, size_t pieces_length, uint16_t harts,
@@ -638,22 +640,24 @@ uint32_t tracebench_compare(const struct tracebench_piece *pieces, size_t pieces
 
 /* What a path did to a capture. */
 
-/* How the audits compare messages. */
+/* How an audit compares messages: flags, which may be added. */
 #define TRACEBENCH_BY_PACKETS 1u /* payloads by the packets that they unpack to, and not by their bytes */
+#define TRACEBENCH_UNNUMBERED 2u /* messages by their payloads alone: the numbers of RECEIVED are not looked at */
 
-/* What became of a message of RECEIVED: of tracebench_audit_all the first of these that applies, from the last on. */
+/* What became of a message of RECEIVED. Without TRACEBENCH_UNNUMBERED, it is the first of these that applies, from
+ * STRANGER on. With it, SENT has no hart of a stranger, and a message that is matched is in order. */
 #define TRACEBENCH_FATE_IN_ORDER 0u /* none of the others */
 #define TRACEBENCH_FATE_LATE 1u     /* an earlier true message of its hart has a greater number */
 #define TRACEBENCH_FATE_REPEAT 2u   /* an earlier true message has its hart and number */
 #define TRACEBENCH_FATE_CHANGED 3u  /* SENT has its hart and number with another payload */
 #define TRACEBENCH_FATE_STRANGER 4u /* SENT has no message of its hart and number */
-#define TRACEBENCH_FATE_EXTRA 5u    /* of tracebench_audit_unnumbered: it is matched with no message of SENT */
+#define TRACEBENCH_FATE_EXTRA 5u    /* it is matched with no message of SENT: with TRACEBENCH_UNNUMBERED alone */
 
-/* What became of the messages of a hart. */
+/* What became of the messages of a hart. What TRACEBENCH_UNNUMBERED does not find is 0. */
 struct tracebench_tally {
     uint64_t sent;     /* how many messages of the hart SENT has */
     uint64_t came;     /* how many messages of the hart RECEIVED has, strangers among them */
-    uint64_t lost;     /* how many numbers of the hart no true message of RECEIVED has */
+    uint64_t lost;     /* how many numbers of the hart no true message of RECEIVED has, or none is matched with */
     uint64_t repeated; /* how many messages of the hart are repeats */
     uint64_t late;     /* how many messages of the hart are late */
     uint64_t changed;  /* how many messages of the hart are changed */
@@ -664,6 +668,7 @@ struct tracebench_tally {
 struct tracebench_hart_row {
     struct tracebench_tally tally; /* what became of its messages */
     uint64_t strange;              /* how many messages of the hart are strangers */
+    uint64_t extra;                /* how many messages of the hart are extra */
     uint64_t runs;                 /* in how many longest runs its lost numbers are */
     uint64_t longest;              /* how many numbers the longest of these runs has; 0 where none is lost */
     uint64_t latest;               /* the most by which a message of the hart is late; 0 where none is */
@@ -673,10 +678,10 @@ struct tracebench_hart_row {
 
 /* A message of RECEIVED that is taken, and what became of it. Its place is that in the array, from 0 on. */
 struct tracebench_arrival {
-    uint64_t number; /* its number */
+    uint64_t number; /* its number; with TRACEBENCH_UNNUMBERED that of SENT which it is matched with, or 0 */
     uint64_t by;     /* by how much a late one is late, or how many numbers one in order skips; 0 for the others */
     uint64_t offset; /* where its first byte is in RECEIVED */
-    uint32_t fate;   /* TRACEBENCH_FATE_IN_ORDER to TRACEBENCH_FATE_STRANGER */
+    uint32_t fate;   /* TRACEBENCH_FATE_IN_ORDER to TRACEBENCH_FATE_EXTRA */
     uint16_t hart;   /* its hart */
 };
 
@@ -707,7 +712,7 @@ struct tracebench_path_end {
     size_t byte_runs;                         /* how many longest runs of bytes are of no message */
     uint64_t bytes;                           /* how many bytes these have */
     uint64_t strangers;                       /* how many strangers came, of whatever hart */
-    uint64_t first;                           /* the place of the first that is not in order or skips a number */
+    uint64_t first;                           /* the place of the first that is not in order or skips numbers */
     struct tracebench_header sent_header;     /* the header of SENT */
     struct tracebench_header received_header; /* that of RECEIVED */
     uint32_t has_sent_header;                 /* 1 where SENT has a header */
@@ -723,75 +728,24 @@ struct tracebench_path_end {
 
 /* Audits RECEIVED against SENT, both captures, and reports what became of the messages of all harts of SENT: what
  * `tracebench audit` prints. SENT is checked to its end first. In RECEIVED the messages are found among damaged bytes.
- * `flags` is 0 or TRACEBENCH_BY_PACKETS; else the status is TRACEBENCH_OUT_OF_RANGE. `rows` is for what is found of
- * each hart, hart 0 first, `arrivals` for the messages of RECEIVED that are taken, in their order, `lost` for the
- * longest runs of numbers that were lost, hart by hart, and `runs` for the longest runs of bytes of no message.
- * `*ended` is how many there are of each, and what else is found. Each array that is large enough is written; one that
- * is not stays as it was, and the status is TRACEBENCH_TOO_SMALL. Where SENT is refused, `*refused` names its message,
- * and the status is TRACEBENCH_SHORT to TRACEBENCH_BAD_HEADER or TRACEBENCH_STRANGER to TRACEBENCH_GAP.
- *     status = tracebench_audit_all(sent, sent_length, received, received_length, 0, rows, 4, arrivals, 1000,
- *                                   lost, 100, runs, 100, &refused, &ended); */
+ * With TRACEBENCH_UNNUMBERED, as with `audit --unnumbered`, they are found by hart and payload, and the payloads of
+ * each hart that came are matched in order with those that were sent. What was sent and is not matched is lost; what
+ * came and is not matched is extra.
+ *
+ * A flag that is not known is TRACEBENCH_OUT_OF_RANGE. `rows` is for what is found of each hart, hart 0 first,
+ * `arrivals` for the messages of RECEIVED that are taken, in their order, `lost` for the longest runs of numbers that
+ * were lost, hart by hart, and `runs` for the longest runs of bytes of no message. `*ended` is how many there are of
+ * each, and what else is found. Each array that is large enough is written; one that is not stays as it was, and the
+ * status is TRACEBENCH_TOO_SMALL. Where SENT is refused, `*refused` names its message, and the status is
+ * TRACEBENCH_SHORT to TRACEBENCH_BAD_HEADER or TRACEBENCH_STRANGER to TRACEBENCH_GAP.
+ *     status = tracebench_audit_all(sent, sent_length, received, received_length, TRACEBENCH_UNNUMBERED, rows, 4,
+ *                                   arrivals, 1000, lost, 100, runs, 100, &refused, &ended); */
 uint32_t tracebench_audit_all(const uint8_t *sent, size_t sent_length, const uint8_t *received, size_t received_length,
                               uint32_t flags, struct tracebench_hart_row *rows, size_t rows_length,
                               struct tracebench_arrival *arrivals, size_t arrivals_length,
                               struct tracebench_lost_run *lost, size_t lost_length, struct tracebench_byte_run *runs,
                               size_t runs_length, struct tracebench_sent_place *refused,
                               struct tracebench_path_end *ended);
-
-/* What is found of a hart of SENT by payloads alone. */
-struct tracebench_aligned_row {
-    uint64_t sent;    /* how many messages of the hart SENT has */
-    uint64_t came;    /* how many messages of the hart RECEIVED has */
-    uint64_t lost;    /* how many messages of SENT are matched with none that came */
-    uint64_t extra;   /* how many messages that came are matched with none of SENT */
-    uint64_t runs;    /* in how many longest runs its lost numbers are */
-    uint64_t longest; /* how many numbers the longest of these runs has; 0 where none is lost */
-    uint32_t whole;   /* 1 where nothing is lost and nothing is extra */
-};
-
-/* A message of RECEIVED that is a stranger, is extra, or is matched and skips numbers. */
-struct tracebench_single {
-    uint64_t place;  /* how many messages of RECEIVED come before it, of whatever hart */
-    uint64_t number; /* of one that is matched the number of SENT that it is matched with; 0 of the others */
-    uint64_t skips;  /* of one that is matched how many numbers are lost since the last one matched before it */
-    uint32_t fate;   /* TRACEBENCH_FATE_IN_ORDER where it is matched, TRACEBENCH_FATE_EXTRA, or TRACEBENCH_FATE_STRANGER
-                        where SENT has no such hart */
-    uint16_t hart;   /* its hart */
-};
-
-/* What is found of a path by payloads alone: as in tracebench_path_end, but for what is said here. */
-struct tracebench_aligned_end {
-    size_t harts;
-    size_t messages;                          /* how many messages RECEIVED has, up to where reading stops */
-    size_t singles;                           /* how many of them are strangers, are extra, or skip numbers */
-    size_t lost_runs;
-    uint64_t strangers;
-    uint64_t first;                           /* the place of the first of these */
-    struct tracebench_header sent_header;
-    struct tracebench_header received_header;
-    uint32_t has_sent_header;
-    uint32_t has_received_header;
-    uint32_t header_fault;
-    uint32_t fault;                           /* why reading stops before the last byte of RECEIVED: the same, or
-                                                 TRACEBENCH_SHORT or TRACEBENCH_BAD_LENGTH; 0 at the end */
-    uint32_t headers_differ;
-    uint32_t has_first;
-    uint32_t whole;                           /* 1 where every hart is whole, no stranger came, headers do not differ,
-                                                 and `fault` is 0 */
-};
-
-/* Audits RECEIVED against SENT by the payloads of the messages alone: what `tracebench audit --unnumbered` prints. For
- * each hart, the payloads that came are matched in order with those that were sent: what was sent and is not matched
- * is lost, what came and is not matched is extra. RECEIVED is read by the lengths of its messages, up to the first
- * place where there is none; its numbers are not looked at. `singles` is for its messages that are strangers, are
- * extra, or skip numbers, in their order. The rest is as with tracebench_audit_all. Memory is taken for all messages.
- *     status = tracebench_audit_unnumbered(sent, sent_length, received, received_length, 0, rows, 4, singles, 1000,
- *                                          lost, 100, &refused, &ended); */
-uint32_t tracebench_audit_unnumbered(const uint8_t *sent, size_t sent_length, const uint8_t *received,
-                                     size_t received_length, uint32_t flags, struct tracebench_aligned_row *rows,
-                                     size_t rows_length, struct tracebench_single *singles, size_t singles_length,
-                                     struct tracebench_lost_run *lost, size_t lost_length,
-                                     struct tracebench_sent_place *refused, struct tracebench_aligned_end *ended);
 
 #ifdef __cplusplus
 }

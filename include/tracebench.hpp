@@ -147,9 +147,6 @@ using lost_run = ::tracebench_lost_run;
 using byte_run = ::tracebench_byte_run;
 using sent_place = ::tracebench_sent_place;
 using path_end = ::tracebench_path_end;
-using aligned_row = ::tracebench_aligned_row;
-using single = ::tracebench_single;
-using aligned_end = ::tracebench_aligned_end;
 
 /* What became of a message of RECEIVED. */
 enum class fate : std::uint32_t {
@@ -570,8 +567,13 @@ inline status dump(span<const std::uint8_t> capture, bytes &text, dump_end &ende
     return detail::into(text, [&](auto room, auto &wanted) { return dump(capture, room, wanted, ended); });
 }
 
-/* How payloads are compared. */
-enum class compared : std::uint32_t { ByBytes = 0, ByPackets = TRACEBENCH_BY_PACKETS };
+/* How messages are compared: by their numbers, or by their payloads alone; and payloads by bytes or by packets. */
+enum class compared : std::uint32_t {
+    ByBytes = 0,
+    ByPackets = TRACEBENCH_BY_PACKETS,
+    UnnumberedByBytes = TRACEBENCH_UNNUMBERED,
+    UnnumberedByPackets = TRACEBENCH_UNNUMBERED | TRACEBENCH_BY_PACKETS,
+};
 
 /* What is found of a path: of its harts, of each message that came, which numbers were lost, which bytes are of no
  * message, and the rest. */
@@ -616,49 +618,6 @@ inline status audit_all(span<const std::uint8_t> sent, span<const std::uint8_t> 
     found.arrivals.keep(found.ended.messages);
     found.lost.keep(found.ended.lost_runs);
     found.runs.keep(found.ended.byte_runs);
-    return said;
-}
-
-/* What is found of a path by payloads alone: of its harts, of the messages that are strangers, are extra, or skip
- * numbers, which numbers were lost, and the rest. */
-struct aligned_path {
-    buffer<aligned_row> rows;
-    buffer<single> singles;
-    buffer<lost_run> lost;
-    aligned_end ended;
-};
-
-inline status audit_unnumbered(span<const std::uint8_t> sent, span<const std::uint8_t> received, compared how,
-                               span<aligned_row> rows, span<single> singles, span<lost_run> lost, sent_place &refused,
-                               aligned_end &ended) noexcept {
-    return status{tracebench_audit_unnumbered(
-        detail::at(sent), sent.size(), detail::at(received), received.size(), static_cast<std::uint32_t>(how),
-        detail::at(rows), rows.size(), detail::at(singles), singles.size(), detail::at(lost), lost.size(), &refused,
-        &ended)};
-}
-
-/* The same into buffers. Where one is too small they grow, and the call is made again. */
-inline status audit_unnumbered(span<const std::uint8_t> sent, span<const std::uint8_t> received, compared how,
-                               aligned_path &found, sent_place &refused) noexcept {
-    const auto call = [&] {
-        return audit_unnumbered(sent, received, how, found.rows.room(), found.singles.room(), found.lost.room(),
-                                refused, found.ended);
-    };
-    const auto fits = [](auto &into, std::size_t count) { return into.room().size() >= count || into.grow(count); };
-    found.rows.keep(0);
-    found.singles.keep(0);
-    found.lost.keep(0);
-    status said = call();
-    if (said == status::TooSmall) {
-        if (!fits(found.rows, found.ended.harts) || !fits(found.singles, found.ended.singles) ||
-            !fits(found.lost, found.ended.lost_runs))
-            return status::Memory;
-        said = call();
-    }
-    if (said != status::Done) return said;
-    found.rows.keep(found.ended.harts);
-    found.singles.keep(found.ended.singles);
-    found.lost.keep(found.ended.lost_runs);
     return said;
 }
 

@@ -417,40 +417,6 @@ uint32_t tracebench_dpi_audit_all(const svOpenArrayHandle sent, uint32_t sent_le
     return status;
 }
 
-uint32_t tracebench_dpi_audit_unnumbered(const svOpenArrayHandle sent, uint32_t sent_length,
-                                         const svOpenArrayHandle received, uint32_t received_length, uint32_t flags,
-                                         const svOpenArrayHandle rows, const svOpenArrayHandle singles,
-                                         const svOpenArrayHandle lost, svBitVecVal *refused, svBitVecVal *ended) {
-    const size_t room[] = {(size_t)svSize(rows, 1), (size_t)svSize(singles, 1), (size_t)svSize(lost, 1)};
-    struct taken_bytes of_sent = bytes_of(sent, sent_length);
-    struct taken_bytes of_received = bytes_of(received, received_length);
-    struct tracebench_aligned_row *row = (struct tracebench_aligned_row *)malloc((room[0] + 1) * sizeof *row);
-    struct tracebench_single *single = (struct tracebench_single *)malloc((room[1] + 1) * sizeof *single);
-    struct tracebench_lost_run *gap = (struct tracebench_lost_run *)malloc((room[2] + 1) * sizeof *gap);
-    struct tracebench_sent_place at;
-    struct tracebench_aligned_end end;
-    memset(&at, 0, sizeof at);
-    memset(&end, 0, sizeof end);
-    const int lacks = of_sent.at == NULL || of_received.at == NULL || row == NULL || single == NULL || gap == NULL;
-    const uint32_t status =
-        lacks ? TRACEBENCH_MEMORY
-              : tracebench_audit_unnumbered(of_sent.at, of_sent.length, of_received.at, of_received.length, flags, row,
-                                            room[0], single, room[1], gap, room[2], &at, &end);
-    if (status == TRACEBENCH_DONE || status == TRACEBENCH_TOO_SMALL) {
-        if (end.harts <= room[0]) hand_out_structs(row, sizeof *row, end.harts, rows);
-        if (end.singles <= room[1]) hand_out_structs(single, sizeof *single, end.singles, singles);
-        if (end.lost_runs <= room[2]) hand_out_structs(gap, sizeof *gap, end.lost_runs, lost);
-    }
-    memcpy(refused, &at, sizeof at);
-    memcpy(ended, &end, sizeof end);
-    free(of_sent.at);
-    free(of_received.at);
-    free(row);
-    free(single);
-    free(gap);
-    return status;
-}
-
 /* What a call for a text is given, and what it writes besides; each call takes some of it. */
 struct asked {
     uint16_t harts;

@@ -1,4 +1,4 @@
-"""What `tracebench audit` prints, put together from what tracebench_audit_all and tracebench_audit_unnumbered report."""
+"""What `tracebench audit` prints, put together from what tracebench_audit_all reports."""
 import alignments
 import audits
 import tracebench
@@ -16,50 +16,37 @@ def message_line(place, one, own, received):
     return f"message {place}: hart {one.hart} number {one.number}: {said}\n" if said else ""
 
 
-def single_line(one):
-    """The line of a message by payloads alone."""
-    said = {tracebench.FATE_STRANGER: ": stranger", tracebench.FATE_EXTRA: ": extra",
-            tracebench.FATE_IN_ORDER: f" number {one.number}: skips {one.skips}"}
-    return f"message {one.place}: hart {one.hart}{said[one.fate]}\n"
+def single_line(place, one):
+    """The line of a message by payloads alone, or nothing where it has none."""
+    said = {tracebench.FATE_STRANGER: ": stranger", tracebench.FATE_EXTRA: ": extra"}.get(one.fate)
+    if one.fate == tracebench.FATE_IN_ORDER and one.by:
+        said = f" number {one.number}: skips {one.by}"
+    return f"message {place}: hart {one.hart}{said}\n" if said else ""
 
 
-def text_of(single, found, rows, names, damage):
-    """A text by the lines of messages, which a summary has not, the counts of each hart, and how many bytes, in how many
-    runs, are of no message."""
-    if single is None:
-        lines = ""
-    else:
-        lines = single + "".join(audits.lost_lines(run.hart, [(run.first, run.last)]) for run in found.lost)
+def text_of(found, sent, received, unnumbered, summary):
+    """The text of an audit: the lines of messages, of runs of bytes and of lost numbers, which a summary has not, and the
+    counts of each hart."""
+    own, names = audits.judged(sent)[1], alignments.NAMES if unnumbered else audits.NAMES
+    lines = ""
+    if not summary:
+        each = [single_line(place, one) if unnumbered else message_line(place, one, own, received)
+                for place, one in enumerate(found.arrivals)]
+        spans = [(one.offset, line) for one, line in zip(found.arrivals, each)]
+        spans += [(run.offset, f"bytes: {run.count} at {run.offset:08x}\n") for run in found.runs]
+        lines = "".join(line for _, line in sorted(spans))
+        lines += "".join(audits.lost_lines(run.hart, [(run.first, run.last)]) for run in found.lost)
+    rows = [(hart, {name: getattr(row if name in ("strange", "extra") else row.tally, name) for name in names},
+             row.tally.whole, row.runs, row.longest, row.latest, row.exchanged and (row.exchanged_hart, row.exchanged))
+            for hart, row in enumerate(found.rows)]
     ended, first = found.ended, found.ended.first if found.ended.has_first else None
     return lines + audits.row_lines(rows, names) + audits.ending(
-        ended.strangers, *damage, ended.headers_differ, first, ended.whole)
-
-
-def numbered(found, sent, received, summary):
-    """The text of `audit`."""
-    own = audits.judged(sent)[1]
-    spans = [(one.offset, message_line(place, one, own, received)) for place, one in enumerate(found.arrivals)]
-    spans += [(run.offset, f"bytes: {run.count} at {run.offset:08x}\n") for run in found.runs]
-    single = "".join(line for _, line in sorted(spans))
-    rows = [(hart, {name: getattr(row if name == "strange" else row.tally, name) for name in audits.NAMES}, row.tally.whole,
-             row.runs, row.longest, row.latest, row.exchanged and (row.exchanged_hart, row.exchanged))
-            for hart, row in enumerate(found.rows)]
-    return text_of(None if summary else single, found, rows, audits.NAMES, (found.ended.bytes, found.ended.byte_runs))
-
-
-def aligned(found, summary):
-    """The text of `audit --unnumbered`."""
-    single = "".join(map(single_line, found.singles))
-    rows = [(hart, {name: getattr(row, name) for name in alignments.NAMES}, row.whole, row.runs, row.longest, 0, None)
-            for hart, row in enumerate(found.rows)]
-    return text_of(None if summary else single, found, rows, alignments.NAMES, (0, 0))
+        ended.strangers, ended.bytes, ended.byte_runs, ended.headers_differ, first, ended.whole)
 
 
 def place_of(ended):
-    """Where RECEIVED is not read on: at its header, or, by payloads alone, at a message."""
-    if ended.header_fault:
-        return "message", 0
-    return ("message", ended.messages) if getattr(ended, "fault", 0) else None
+    """Where RECEIVED has no valid header."""
+    return ("message", 0) if ended.header_fault else None
 
 
 def refusal(refused):

@@ -148,6 +148,8 @@ def row_lines(rows, names):
         text += f"hart {hart}: {counts(row, names, is_whole)}"
         if count:
             text += f"hart {hart}: lost in {count} runs, the longest of {longest}\n"
+        if row["lost"] and row.get("extra") and row["lost"] + row["extra"] > 256:
+            text += f"hart {hart}: more than 256 lost and extra, more may match\n"
         if latest:
             text += f"hart {hart}: late by at most {latest}\n"
         if other:

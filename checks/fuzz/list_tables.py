@@ -10,6 +10,7 @@ COLUMNS = (
     "kind", "place", "offset", "hart", "number", "packet", "addr", "diff", "priv", "branch", "trap", "cause", "tval",
     "handler", "epc", "map", "report", "mode", "ended", "bad", "waits", "closed", "treatment", "reason", "late", "bytes",
     "added", "first_row", "last_row", "first", "last", "first_symbol", "first_distance", "last_symbol", "last_distance")
+OF_SALVAGE = (*COLUMNS[: COLUMNS.index("late")], "far", *COLUMNS[COLUMNS.index("late") :])
 UNUSED = {"stranger", "copy", "doubtful", "alone", "passed"}
 
 
@@ -71,7 +72,7 @@ def word(row):
         made = f"bad: {row.pop('reason')}"
     else:
         made = what if what in UNUSED else "?"
-    return made + flag(row, "late", ", late")
+    return made + flag(row, "far", ", far") + flag(row, "late", ", late")
 
 
 def line(row, is_salvaged, rows):
@@ -98,7 +99,7 @@ def text_of(table, is_salvaged, places=None):
     """The lines of a table, which is bytes; the line of the header is none of them. `places` has the place of the message
     at each offset, where rows may be missing."""
     made, count, rows = [], 0, {}
-    for row in rows_of(table, COLUMNS):
+    for row in rows_of(table, OF_SALVAGE if is_salvaged else COLUMNS):
         if row["kind"] != "bytes":
             wanted = places.get(int(row["offset"], 16)) if places is not None else count
             if row.pop("place") != str(wanted):

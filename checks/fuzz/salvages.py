@@ -32,6 +32,19 @@ def sorted_out(came):
     return used, doubtful, copies
 
 
+def far_numbers(used, doubtful):
+    """The greatest set of used numbers such that each stands by itself, is ahead of a message, and is ahead of more than
+    twice as many as any used number outside. With a number such a set has all that are ahead of as many."""
+    ahead = {one: sum(it < one and used[it][1] > used[one][1] for it in used) for one in used}
+    came = {**used, **doubtful}
+    for least in sorted(set(ahead.values()) - {0}):
+        far = {it for it in used if ahead[it] >= least}
+        most = max((ahead[it] for it in used if it not in far), default=0)
+        if least > 2 * most and not any(it - 1 in came or it + 1 in came for it in far):
+            return far
+    return set()
+
+
 def packet_or_fault(payload):
     try:
         return reading.unpack(payload), None
@@ -42,9 +55,9 @@ def packet_or_fault(payload):
 class Taken:
     """What some numbers of a hart leave, taken in their order: its parts, what is bad of it, and the events that each
     number adds whose packet is decoded. To the packets up to
-    `end` it is as if no number above it were used."""
+    `end` it is as if no number above it were used. Of those in `far` no gap knows."""
 
-    def __init__(self, program, mode, used, doubtful, end=None):
+    def __init__(self, program, mode, used, doubtful, far, end=None):
         self.program, self.mode, self.used, self.end = program, mode, used, end
         self.parts, self.bad, self.added = [], {}, {}
         self.decoder, self.numbers, expected = reading.Decoder(program), [], 0
@@ -53,6 +66,10 @@ class Taken:
                 break
             if number > expected:
                 self.pass_over()
+            if number in far:
+                self.take(number, True)
+                continue
+            if number > expected:
                 self.parts.append(("gap", number - expected))
             expected = number
             if number in doubtful:
@@ -69,11 +86,13 @@ class Taken:
             self.parts.append(("stretch", self.decoder.events, self.numbers[0], self.numbers[-1]))
         self.decoder, self.numbers = None, []
 
-    def take(self, number):
+    def take(self, number, is_far=False):
         if why := self.fault(number):
             self.pass_over()
             self.bad[number] = why
             self.parts.append(("bad", number))
+        elif is_far:
+            self.parts.append(("far", number))
 
     def fault(self, number):
         """Takes the message with this number; why it is bad, or None."""
@@ -109,14 +128,16 @@ class Salvage:
     def __init__(self, program, mode, came):
         self.used, self.doubtful, self.copies = sorted_out(came)
         self.of_doubtful = len({it for it in came if it[0] in self.doubtful})
+        far = far_numbers(self.used, self.doubtful)
         opening = packet_or_fault(self.used[0][0])[0] if 0 in self.used else None
         self.mode = opening[1] if opening and opening[0] == "open" else mode
-        first = Taken(program, self.mode, self.used, self.doubtful)
+        first = Taken(program, self.mode, self.used, self.doubtful, far)
         end = self.end_of(first)
-        taken = Taken(program, self.mode, self.used, self.doubtful, end) if end is not None else first
+        taken = Taken(program, self.mode, self.used, self.doubtful, far, end) if end is not None else first
         self.parts, self.bad, self.added, self.alone = taken.parts, dict(taken.bad), taken.added, set()
         if end is not None:
             self.beyond(first, end)
+        self.far = far - set(self.bad) - self.alone
         last = end if end is not None else max(self.used, default=None)
         self.closed = last is not None and closes(self.used[last][0])
         self.late = sum(map(self.is_late, self.used))
@@ -144,10 +165,15 @@ class Salvage:
                 self.alone.add(number)
                 self.parts.append(("alone", number))
 
+    def is_believed(self, number):
+        return number not in self.bad and number not in self.alone and number not in self.far
+
     def is_late(self, number):
-        """Whether a good message with a greater number came before the used one with this number."""
-        good = (it for it in self.used if it > number and it not in self.bad and it not in self.alone)
-        return any(self.used[it][1] < self.used[number][1] for it in good)
+        """Whether the used message with this number is believed, and one with a greater number came before it."""
+        if not self.is_believed(number):
+            return False
+        earlier = (it for it in self.used if it > number and self.used[it][1] < self.used[number][1])
+        return any(map(self.is_believed, earlier))
 
     def is_whole(self):
         return self.closed and all(part[0] == "stretch" for part in self.parts)
@@ -155,9 +181,10 @@ class Salvage:
     def totals(self):
         """What the last line counts of the hart, by name."""
         events = [len(part[1]) for part in self.parts if part[0] == "stretch"]
-        taken = {"bad": len(self.bad), "alone": len(self.alone), "decoded": len(self.added)}
+        decoded = len(self.added.keys() - self.far)
+        taken = {"bad": len(self.bad), "alone": len(self.alone), "far": len(self.far), "decoded": decoded}
         return {
-            "rows": sum(events), **taken, "passed": len(self.used) - sum(taken.values()), "far": 0,
+            "rows": sum(events), **taken, "passed": len(self.used) - sum(taken.values()),
             "doubtful": self.of_doubtful, "copies": self.copies, "late": self.late,
         }
 
@@ -176,8 +203,8 @@ class Salvage:
             return f"doubtful: number {part[1]} at {first:08x} and {second:08x}\n"
         if part[0] == "bad":
             return f"bad: number {part[1]} at {offsets[self.used[part[1]][1]]:08x}: {self.bad[part[1]]}\n"
-        if part[0] == "alone":
-            return f"alone: number {part[1]} at {offsets[self.used[part[1]][1]]:08x}\n"
+        if part[0] in ("alone", "far"):
+            return f"{part[0]}: number {part[1]} at {offsets[self.used[part[1]][1]]:08x}\n"
         _, events, first, last = part
         rows = "" if is_summary else reading.log_text(events)
         return f"stretch: {len(events)} events, numbers {first} to {last}\n{rows}"
@@ -243,7 +270,7 @@ LINES = (
     (re.compile(r"(gap|copies|late|strangers): (\d+) messages"), ("kind", "count")),
     (re.compile(r"(bad): number (\d+) at (\w+): (.*)"), ("kind", "number", "offset", "reason")),
     (re.compile(r"(doubtful): number (\d+) at (\w+) and (\w+)"), ("kind", "number", "offset", "second")),
-    (re.compile(r"(alone): number (\d+) at (\w+)"), ("kind", "number", "offset")),
+    (re.compile(r"(alone|far): number (\d+) at (\w+)"), ("kind", "number", "offset")),
     (re.compile(r"(bytes): (\d+) at (\w+)"), ("kind", "count", "offset")),
 )
 
@@ -292,7 +319,8 @@ def modes_and_ends(program, harts, capture):
 def kind_of(text, error):
     """What was salvaged, without numbers: which words stand in the text, and the error."""
     words = (
-        "mode: ", "stretch: ", "gap: ", "bad: ", "doubtful: ", "alone: ", "copies: ", "late: ", "bytes: ", "strangers: ",
+        "mode: ", "stretch: ", "gap: ", "bad: ", "doubtful: ", "alone: ", "far: ", "copies: ", "late: ", "bytes: ",
+        "strangers: ",
     )
     found = [word.strip(": ") for word in words if word in text]
     return ", ".join((*found, *([error] if error else ["all closed"])))
@@ -335,7 +363,7 @@ def everyday_damage(random, made, harts):
         elif what == 6:
             made[at] = hart, number, cases.payload_of(random.choice((("ended_rep",), ("ended_ntr",))))
         else:
-            made[at] = hart, random.choice((number ^ 1, max(number, 1) - 1, END_OF_NUMBERS - 1)), payload
+            made[at] = hart, random.choice((number ^ 1, max(number, 1) - 1, number + 60, END_OF_NUMBERS - 1)), payload
     return made
 
 

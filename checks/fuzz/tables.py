@@ -21,6 +21,7 @@ LOST = re.compile(r"hart (\d+): numbers? (\d+)(?: to (\d+))? lost")
 COUNTED = re.compile(r"(?:hart (\d+)|all): (\d+ sent, .*)")
 RUNS = re.compile(r"hart (\d+): lost in (\d+) runs, the longest of (\d+)")
 LATE = re.compile(r"hart (\d+): late by at most (\d+)")
+MORE = re.compile(r"hart \d+: more than 256 lost and extra, more may match")
 EXCHANGED = re.compile(r"hart (\d+): (\d+) of what came is hart (\d+)'s")
 
 
@@ -82,6 +83,8 @@ def rows_of(text, unnumbered, messages):
                 harts.append(row("hart", hart=found[1], **counts(found[2]), **none))
         elif line == "headers differ":
             result["fate"] = line
+        elif MORE.fullmatch(line):
+            pass  # its row's `lost` and `strange` show it
         elif line.startswith("strangers: "):
             result["strange"] = line.split()[1]
         elif line.startswith("bytes: "):

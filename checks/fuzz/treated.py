@@ -16,18 +16,18 @@ class Harts:
         self.last_row = [rows_of_numbers(it.added) for it in self.left]
 
     def treat(self, message, symbols, says_rows):
-        """The word for the next message, and whether it is late."""
+        """The word for the next message, and what follows it where it is far or late."""
         hart, number, payload = message
         if salvages.is_stranger(message, len(self.left)):
-            return b"stranger", False
+            return b"stranger", b""
         it = self.left[hart]
         if (number, payload) in self.came[hart]:
-            return b"copy", False
+            return b"copy", b""
         self.came[hart].add((number, payload))
         if number in it.doubtful:
-            return b"doubtful", False
+            return b"doubtful", b""
         last = self.last_row[hart].get(number) if says_rows else None
-        return self.word(it, number, symbols, last), it.is_late(number)
+        return self.word(it, number, symbols, last), b", far" * (number in it.far) + b", late" * it.is_late(number)
 
     @staticmethod
     def word(it, number, symbols, last):
@@ -67,9 +67,9 @@ def listing(program, harts, capture, symbols, only=None, says_rows=False):
             continue
         if not reading.is_chosen(only, one[0]):
             continue
-        word, is_late = treated.treat(one, symbols, says_rows)
+        word, mark = treated.treat(one, symbols, says_rows)
         line = frames.message_line(one, mode)[0].encode().removesuffix(b"\n")
-        text += b"%08x %s => %s%s\n" % (offset, line, word, b", late" * is_late)
+        text += b"%08x %s => %s%s\n" % (offset, line, word, mark)
     status, salvaged, error = salvages.salvage(program, harts, capture, only=only)
     assert added_by(text) == rows_of(salvaged), (text, salvaged)
     return status, text, error

@@ -33,9 +33,9 @@ CHANGES = (
     ("header sent_header;     /* the header of SENT */\n    struct tracebench_header received_header; /* that of",
      "header received_header; /* that of */\n    struct tracebench_header sent_header; /* that of",
      "include/tracebench.h: struct tracebench_path_end: received_header header, and crates/ffi has sent_header"),
-    ("    pub place: u64,\n    /// Of a message that is matched the number of SENT that it is matched with; 0 of the "
-     "others.\n    pub number: u64,", "    pub number: u64,\n    pub place: u64,",
-     "include/tracebench.h: struct tracebench_single: place uint64, and crates/ffi has number uint64"),
+    ("    pub offset: u64,\n    /// How many there are, 1 or more.\n    pub count: u64,",
+     "    pub count: u64,\n    pub offset: u64,",
+     "include/tracebench.h: struct tracebench_byte_run: offset uint64, and crates/ffi has count uint64"),
     ("    pub hart: u16,\n}", "    pub hart: u32,\n}",
      "include/tracebench.h: struct tracebench_arrival: hart uint16, and crates/ffi has hart uint32"),
     ("    harts: u16,\n    capture: &[u8],", "    capture: &[u8],\n    harts: u16,",

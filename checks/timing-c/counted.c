@@ -157,29 +157,21 @@ static size_t whole_lines(void) {
     return message_count;
 }
 
-static size_t whole_audit_all(void) {
+static size_t whole_audit(uint32_t flags) {
     static struct tracebench_hart_row rows[1];
     static struct tracebench_lost_run lost[1];
     static struct tracebench_byte_run runs[1];
     struct tracebench_sent_place refused;
     struct tracebench_path_end ended;
-    done("audit_all", tracebench_audit_all(capture, capture_length, capture, capture_length, 0, rows, 1,
+    done("audit_all", tracebench_audit_all(capture, capture_length, capture, capture_length, flags, rows, 1,
                                            (struct tracebench_arrival *)(void *)buffer,
                                            room / sizeof(struct tracebench_arrival), lost, 1, runs, 1, &refused,
                                            &ended));
     return message_count;
 }
 
-static size_t whole_audit_unnumbered(void) {
-    static struct tracebench_aligned_row rows[1];
-    static struct tracebench_single singles[1];
-    static struct tracebench_lost_run lost[1];
-    struct tracebench_sent_place refused;
-    struct tracebench_aligned_end ended;
-    done("audit_unnumbered", tracebench_audit_unnumbered(capture, capture_length, capture, capture_length, 0, rows, 1,
-                                                         singles, 1, lost, 1, &refused, &ended));
-    return message_count;
-}
+static size_t whole_audit_all(void) { return whole_audit(0); }
+static size_t whole_audit_unnumbered(void) { return whole_audit(TRACEBENCH_UNNUMBERED); }
 
 static size_t each_header(bool writes) {
     const struct tracebench_header header = {TRACEBENCH_FULL, PERIOD, 4};

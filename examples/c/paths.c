@@ -41,8 +41,8 @@ static void print_row(const struct tracebench_hart_row *it) {
            tally->sent, tally->came, tally->lost, tally->repeated);
     printf(", late: %" PRIu64 ", changed: %" PRIu64 ", whole: %" PRIu32 " }", tally->late, tally->changed,
            tally->whole);
-    printf(", strange: %" PRIu64 ", runs: %" PRIu64 ", longest: %" PRIu64 ", latest: %" PRIu64, it->strange, it->runs,
-           it->longest, it->latest);
+    printf(", strange: %" PRIu64 ", extra: %" PRIu64 ", runs: %" PRIu64 ", longest: %" PRIu64 ", latest: %" PRIu64,
+           it->strange, it->extra, it->runs, it->longest, it->latest);
     printf(", exchanged: %" PRIu64 ", exchanged_hart: %" PRIu64 " }\n", it->exchanged, it->exchanged_hart);
 }
 
@@ -65,29 +65,6 @@ static void print_end(const struct tracebench_path_end *it) {
            it->has_sent_header, it->has_received_header, it->header_fault);
     printf(", headers_differ: %" PRIu32 ", has_first: %" PRIu32 ", whole: %" PRIu32 " }\n", it->headers_differ,
            it->has_first, it->whole);
-}
-
-static void print_aligned_row(const struct tracebench_aligned_row *it) {
-    printf("AlignedRow { sent: %" PRIu64 ", came: %" PRIu64 ", lost: %" PRIu64 ", extra: %" PRIu64, it->sent, it->came,
-           it->lost, it->extra);
-    printf(", runs: %" PRIu64 ", longest: %" PRIu64 ", whole: %" PRIu32 " }\n", it->runs, it->longest, it->whole);
-}
-
-static void print_single(const struct tracebench_single *it) {
-    printf("Single { place: %" PRIu64 ", number: %" PRIu64 ", skips: %" PRIu64 ", fate: %" PRIu32 ", hart: %u }\n",
-           it->place, it->number, it->skips, it->fate, it->hart);
-}
-
-static void print_aligned_end(const struct tracebench_aligned_end *it) {
-    printf("AlignedEnd { harts: %zu, messages: %zu, singles: %zu, lost_runs: %zu", it->harts, it->messages,
-           it->singles, it->lost_runs);
-    printf(", strangers: %" PRIu64 ", first: %" PRIu64, it->strangers, it->first);
-    print_header(", sent_header: ", &it->sent_header, "");
-    print_header(", received_header: ", &it->received_header, "");
-    printf(", has_sent_header: %" PRIu32 ", has_received_header: %" PRIu32 ", header_fault: %" PRIu32,
-           it->has_sent_header, it->has_received_header, it->header_fault);
-    printf(", fault: %" PRIu32 ", headers_differ: %" PRIu32 ", has_first: %" PRIu32 ", whole: %" PRIu32 " }\n",
-           it->fault, it->headers_differ, it->has_first, it->whole);
 }
 
 /* What was sent: messages of one byte, of two harts. */
@@ -163,32 +140,28 @@ static size_t write_received(uint8_t *at, size_t room) {
     return length + write_messages(at + length, room - length, then_came, COUNT(then_came));
 }
 
-/* Audits a path, by numbers and by payloads alone. Prints all that is found, or the ends. */
-static void audit(const uint8_t *sent, size_t sent_length, const uint8_t *received, size_t received_length, int all) {
+/* Audits a path, by numbers or by payloads alone. Prints all that is found, or the end. */
+static void audit_by(uint32_t flags, const uint8_t *sent, size_t sent_length, const uint8_t *received,
+                     size_t received_length, int all) {
     static struct tracebench_hart_row rows[MOST];
     static struct tracebench_arrival arrivals[MOST];
     static struct tracebench_lost_run lost[MOST];
     static struct tracebench_byte_run runs[MOST];
-    static struct tracebench_aligned_row aligned_rows[MOST];
-    static struct tracebench_single singles[MOST];
     struct tracebench_sent_place refused;
     struct tracebench_path_end ended;
-    struct tracebench_aligned_end aligned;
-    done("audit_all", tracebench_audit_all(sent, sent_length, received, received_length, 0, rows, MOST, arrivals, MOST,
-                                           lost, MOST, runs, MOST, &refused, &ended));
+    done("audit_all", tracebench_audit_all(sent, sent_length, received, received_length, flags, rows, MOST, arrivals,
+                                           MOST, lost, MOST, runs, MOST, &refused, &ended));
     for (size_t i = 0; all && i < ended.harts; i++) print_row(&rows[i]);
     for (size_t i = 0; all && i < ended.messages; i++) print_arrival(&arrivals[i]);
     for (size_t i = 0; all && i < ended.lost_runs; i++) print_lost(&lost[i]);
     for (size_t i = 0; all && i < ended.byte_runs; i++)
         printf("ByteRun { offset: %" PRIu64 ", count: %" PRIu64 " }\n", runs[i].offset, runs[i].count);
     print_end(&ended);
-    done("audit_unnumbered",
-         tracebench_audit_unnumbered(sent, sent_length, received, received_length, 0, aligned_rows, MOST, singles, MOST,
-                                     lost, MOST, &refused, &aligned));
-    for (size_t i = 0; all && i < aligned.harts; i++) print_aligned_row(&aligned_rows[i]);
-    for (size_t i = 0; all && i < aligned.singles; i++) print_single(&singles[i]);
-    for (size_t i = 0; all && i < aligned.lost_runs; i++) print_lost(&lost[i]);
-    print_aligned_end(&aligned);
+}
+
+static void audit(const uint8_t *sent, size_t sent_length, const uint8_t *received, size_t received_length, int all) {
+    audit_by(0, sent, sent_length, received, received_length, all);
+    audit_by(TRACEBENCH_UNNUMBERED, sent, sent_length, received, received_length, all);
 }
 
 /* What is refused as SENT: its last message is not the next of its hart. */

@@ -67,9 +67,9 @@ std::ostream &operator<<(std::ostream &out, const tracebench::tally &it) {
 }
 
 std::ostream &operator<<(std::ostream &out, const tracebench::hart_row &it) {
-    return out << "HartRow { tally: " << it.tally << ", strange: " << it.strange << ", runs: " << it.runs
-               << ", longest: " << it.longest << ", latest: " << it.latest << ", exchanged: " << it.exchanged
-               << ", exchanged_hart: " << it.exchanged_hart << " }";
+    return out << "HartRow { tally: " << it.tally << ", strange: " << it.strange << ", extra: " << it.extra
+               << ", runs: " << it.runs << ", longest: " << it.longest << ", latest: " << it.latest
+               << ", exchanged: " << it.exchanged << ", exchanged_hart: " << it.exchanged_hart << " }";
 }
 
 std::ostream &operator<<(std::ostream &out, const tracebench::arrival &it) {
@@ -95,27 +95,6 @@ std::ostream &operator<<(std::ostream &out, const tracebench::path_end &it) {
                << ", first: " << it.first << ", sent_header: " << it.sent_header
                << ", received_header: " << it.received_header << ", has_sent_header: " << it.has_sent_header
                << ", has_received_header: " << it.has_received_header << ", header_fault: " << it.header_fault
-               << ", headers_differ: " << it.headers_differ << ", has_first: " << it.has_first
-               << ", whole: " << it.whole << " }";
-}
-
-std::ostream &operator<<(std::ostream &out, const tracebench::aligned_row &it) {
-    return out << "AlignedRow { sent: " << it.sent << ", came: " << it.came << ", lost: " << it.lost
-               << ", extra: " << it.extra << ", runs: " << it.runs << ", longest: " << it.longest
-               << ", whole: " << it.whole << " }";
-}
-
-std::ostream &operator<<(std::ostream &out, const tracebench::single &it) {
-    return out << "Single { place: " << it.place << ", number: " << it.number << ", skips: " << it.skips
-               << ", fate: " << it.fate << ", hart: " << it.hart << " }";
-}
-
-std::ostream &operator<<(std::ostream &out, const tracebench::aligned_end &it) {
-    return out << "AlignedEnd { harts: " << it.harts << ", messages: " << it.messages << ", singles: " << it.singles
-               << ", lost_runs: " << it.lost_runs << ", strangers: " << it.strangers << ", first: " << it.first
-               << ", sent_header: " << it.sent_header << ", received_header: " << it.received_header
-               << ", has_sent_header: " << it.has_sent_header << ", has_received_header: " << it.has_received_header
-               << ", header_fault: " << it.header_fault << ", fault: " << it.fault
                << ", headers_differ: " << it.headers_differ << ", has_first: " << it.has_first
                << ", whole: " << it.whole << " }";
 }
@@ -163,24 +142,18 @@ std::vector<std::uint8_t> received() {
 
 /* Audits a path, by numbers and by payloads alone. Prints all that is found, or the ends. */
 void audit(bytes_seen sent, bytes_seen came, bool all) {
-    tracebench::audited_path found;
-    tracebench::aligned_path aligned;
     tracebench::sent_place refused;
-    expect(tracebench::audit_all(sent, came, compared::ByBytes, found, refused));
-    if (all) {
-        print_each(found.rows);
-        print_each(found.arrivals);
-        print_each(found.lost);
-        print_each(found.runs);
+    for (const compared how : {compared::ByBytes, compared::UnnumberedByBytes}) {
+        tracebench::audited_path found;
+        expect(tracebench::audit_all(sent, came, how, found, refused));
+        if (all) {
+            print_each(found.rows);
+            print_each(found.arrivals);
+            print_each(found.lost);
+            print_each(found.runs);
+        }
+        std::cout << found.ended << '\n';
     }
-    std::cout << found.ended << '\n';
-    expect(tracebench::audit_unnumbered(sent, came, compared::ByBytes, aligned, refused));
-    if (all) {
-        print_each(aligned.rows);
-        print_each(aligned.singles);
-        print_each(aligned.lost);
-    }
-    std::cout << aligned.ended << '\n';
 }
 
 /* A second line with a number and no bytes. */

@@ -56,7 +56,7 @@ def received(library):
 
 def audit(library, sent, came, whole=False):
     """Audits a path, by numbers and by payloads alone. Prints all that is found, or the ends."""
-    for found in (library.audit_all(sent, came), library.audit_unnumbered(sent, came)):
+    for found in (library.audit_all(sent, came), library.audit_all(sent, came, tracebench.UNNUMBERED)):
         for array in found[:-1] if whole else ():
             show(*array)
         show(found.ended)

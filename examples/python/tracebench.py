@@ -24,7 +24,7 @@ DIFFERENTIAL, FULL = 0, 1
 PLAIN, UPDISCON, NOTIFY = range(3)
 RETIREMENT, TRAP_TAKEN = 0, 1
 VERSION_ONE, VERSION_TWO = 1, 2
-BY_PACKETS = 1
+BY_PACKETS, UNNUMBERED = 1, 2
 FATE_IN_ORDER, FATE_LATE, FATE_REPEAT, FATE_CHANGED, FATE_STRANGER, FATE_EXTRA = range(6)
 TEXT, CSV, SUMMARY = range(3)
 
@@ -179,6 +179,7 @@ class Header(Struct):
 class HartRow(Struct):
     tally: Tally
     strange: U64
+    extra: U64
     runs: U64
     longest: U64
     latest: U64
@@ -241,54 +242,6 @@ class AuditedPath(NamedTuple):
     lost: Sequence[LostRun]
     runs: Sequence[ByteRun]
     ended: PathEnd
-
-
-@of_hints
-class AlignedRow(Struct):
-    sent: U64
-    came: U64
-    lost: U64
-    extra: U64
-    runs: U64
-    longest: U64
-    whole: U32
-
-
-@of_hints
-class Single(Struct):
-    place: U64
-    number: U64
-    skips: U64
-    fate: U32
-    hart: U16
-
-
-@of_hints
-class AlignedEnd(Struct):
-    harts: SIZE
-    messages: SIZE
-    singles: SIZE
-    lost_runs: SIZE
-    strangers: U64
-    first: U64
-    sent_header: Header
-    received_header: Header
-    has_sent_header: U32
-    has_received_header: U32
-    header_fault: U32
-    fault: U32
-    headers_differ: U32
-    has_first: U32
-    whole: U32
-
-
-class AlignedPath(NamedTuple):
-    """What is found of a path by payloads alone: of each hart, of the messages that are strangers, are extra, or skip
-    numbers, which numbers were lost, and the rest."""
-    rows: Sequence[AlignedRow]
-    singles: Sequence[Single]
-    lost: Sequence[LostRun]
-    ended: AlignedEnd
 
 
 @of_hints
@@ -384,7 +337,6 @@ PARAMETERS = {
                POINTER(LogPlace)],
     "dump": [*SLICE, *ROOM, POINTER(DumpEnd)],
     "audit_all": [*SLICE, *SLICE, c_uint32, *SLICE, *SLICE, *SLICE, *SLICE, POINTER(SentPlace), POINTER(PathEnd)],
-    "audit_unnumbered": [*SLICE, *SLICE, c_uint32, *SLICE, *SLICE, *SLICE, POINTER(SentPlace), POINTER(AlignedEnd)],
     "write_message": [c_uint16, c_uint64, *SLICE, *ROOM],
     "read_message": [*SLICE, POINTER(Message), POINTER(c_size_t)],
     "write_header": [POINTER(Header), *ROOM],
@@ -607,35 +559,20 @@ class Library:
         return text, ended
 
     def audit_all(self, sent: Lender, received: Lender, flags: int = 0) -> AuditedPath:
-        """What became of the messages of all harts of SENT in RECEIVED. Where SENT is refused, `Refused` has why, and
-        its row is the message of SENT."""
-        ended, fields = PathEnd(), ("harts", "messages", "lost_runs", "byte_runs")
-        rows, arrivals, lost, runs = self._audited("audit_all", sent, received, flags, ended, fields,
-                                                   (HartRow, Arrival, LostRun, ByteRun))
-        return AuditedPath(rows, arrivals, lost, runs, ended)
-
-    def audit_unnumbered(self, sent: Lender, received: Lender, flags: int = 0) -> AlignedPath:
-        """The same by the payloads of the messages alone."""
-        ended, fields = AlignedEnd(), ("harts", "singles", "lost_runs")
-        rows, singles, lost = self._audited("audit_unnumbered", sent, received, flags, ended, fields,
-                                            (AlignedRow, Single, LostRun))
-        return AlignedPath(rows, singles, lost, ended)
-
-    def _audited(self, call: str, sent: Lender, received: Lender, flags: int, ended: Any, fields: Sequence[str],
-                 kinds: Sequence[Any]) -> List[Any]:
-        """What an audit of all harts hands out: an array of each kind. `ended` is then written, and how many there are
-        of each is in its fields."""
-        before, after, refused = Borrowed(sent), Borrowed(received), SentPlace()
-        counts = [0] * len(kinds)
+        """What became of the messages of all harts of SENT in RECEIVED; with the flag `UNNUMBERED` by the payloads of the
+        messages alone. Where SENT is refused, `Refused` has why, and its row is the message of SENT."""
+        before, after, refused, ended = Borrowed(sent), Borrowed(received), SentPlace(), PathEnd()
+        counts = [0] * 4
         while True:
+            kinds = HartRow, Arrival, LostRun, ByteRun
             arrays = [(kind * (count or 1))() for kind, count in zip(kinds, counts)]
             rooms = [word for room in zip(arrays, counts) for word in room]
-            status = self.calls[call](*before.slice, *after.slice, flags, *rooms, byref(refused), byref(ended))
+            status = self.calls["audit_all"](*before.slice, *after.slice, flags, *rooms, byref(refused), byref(ended))
             if status == DONE:
-                return [array[:count] for array, count in zip(arrays, counts)]
+                return AuditedPath(*(array[:count] for array, count in zip(arrays, counts)), ended)
             if status != TOO_SMALL:
                 raise Refused(status, row=refused.message, expected=refused.expected)
-            counts = [getattr(ended, field) for field in fields]
+            counts = [ended.harts, ended.messages, ended.lost_runs, ended.byte_runs]
 
     def write_message(self, hart: int, number: int, payload: Lender) -> bytes:
         """The bytes of a message."""

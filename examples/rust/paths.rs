@@ -8,7 +8,7 @@
 use std::error::Error;
 use std::fmt::Debug;
 use tracebench::{
-    audit_all, audit_unnumbered, capture_of_lines, read_header, read_message, write_header,
+    audit_all, capture_of_lines, read_header, read_message, write_header,
     write_message, Compared, Header, Mode, SentPlace, Status, Version,
 };
 
@@ -103,21 +103,16 @@ fn print_each<T: Debug>(items: &[T]) {
 
 /// Audits a path, by numbers and by payloads alone. Prints all that is found, or the ends.
 fn audit(sent: &[u8], came: &[u8], all: bool) -> Result<(), Box<dyn Error>> {
-    let found = audit_all(sent, came, Compared::ByBytes).map_err(refused)?;
-    if all {
-        print_each(&found.rows);
-        print_each(&found.arrivals);
-        print_each(&found.lost);
-        print_each(&found.runs);
+    for how in [Compared::ByBytes, Compared::UnnumberedByBytes] {
+        let found = audit_all(sent, came, how).map_err(refused)?;
+        if all {
+            print_each(&found.rows);
+            print_each(&found.arrivals);
+            print_each(&found.lost);
+            print_each(&found.runs);
+        }
+        println!("{:?}", found.ended);
     }
-    println!("{:?}", found.ended);
-    let aligned = audit_unnumbered(sent, came, Compared::ByBytes).map_err(refused)?;
-    if all {
-        print_each(&aligned.rows);
-        print_each(&aligned.singles);
-        print_each(&aligned.lost);
-    }
-    println!("{:?}", aligned.ended);
     Ok(())
 }
 

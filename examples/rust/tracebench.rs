@@ -223,14 +223,15 @@ pub struct Header {
     pub harts: u16,
 }
 
-/// How payloads are compared.
+/// How messages are compared: by their numbers or by their payloads alone, and payloads by bytes or by packets.
 #[derive(Clone, Copy, Debug, PartialEq, Eq)]
 #[repr(u32)]
+#[allow(missing_docs)]
 pub enum Compared {
-    /// By their bytes.
     ByBytes = 0,
-    /// By the packets that they unpack to.
     ByPackets = 1,
+    UnnumberedByBytes = 2,
+    UnnumberedByPackets = 3,
 }
 
 /// What is found of a hart of SENT, `struct tracebench_hart_row`.
@@ -240,6 +241,7 @@ pub enum Compared {
 pub struct HartRow {
     pub tally: Tally,
     pub strange: u64,
+    pub extra: u64,
     pub runs: u64,
     pub longest: u64,
     pub latest: u64,
@@ -324,67 +326,6 @@ pub struct AuditedPath {
     pub ended: PathEnd,
 }
 
-/// What is found of a hart of SENT by payloads alone, `struct tracebench_aligned_row`.
-#[derive(Clone, Copy, Debug, Default, PartialEq, Eq)]
-#[repr(C)]
-#[allow(missing_docs)]
-pub struct AlignedRow {
-    pub sent: u64,
-    pub came: u64,
-    pub lost: u64,
-    pub extra: u64,
-    pub runs: u64,
-    pub longest: u64,
-    pub whole: u32,
-}
-
-/// A message of RECEIVED that is a stranger, is extra, or skips numbers, `struct tracebench_single`.
-#[derive(Clone, Copy, Debug, Default, PartialEq, Eq)]
-#[repr(C)]
-#[allow(missing_docs)]
-pub struct Single {
-    pub place: u64,
-    pub number: u64,
-    pub skips: u64,
-    pub fate: u32,
-    pub hart: u16,
-}
-
-/// What is found of a path by payloads alone, beside its harts and its messages, `struct tracebench_aligned_end`.
-#[derive(Clone, Copy, Debug, Default, PartialEq, Eq)]
-#[repr(C)]
-#[allow(missing_docs)]
-pub struct AlignedEnd {
-    pub harts: usize,
-    pub messages: usize,
-    pub singles: usize,
-    pub lost_runs: usize,
-    pub strangers: u64,
-    pub first: u64,
-    pub sent_header: Header,
-    pub received_header: Header,
-    pub has_sent_header: u32,
-    pub has_received_header: u32,
-    pub header_fault: u32,
-    pub fault: u32,
-    pub headers_differ: u32,
-    pub has_first: u32,
-    pub whole: u32,
-}
-
-/// What is found of a path by payloads alone.
-#[derive(Clone, Debug, Default, PartialEq, Eq)]
-pub struct AlignedPath {
-    /// Of each hart of SENT.
-    pub rows: Vec<AlignedRow>,
-    /// The messages that are strangers, are extra, or skip numbers.
-    pub singles: Vec<Single>,
-    /// Which numbers were lost.
-    pub lost: Vec<LostRun>,
-    /// The rest.
-    pub ended: AlignedEnd,
-}
-
 /// How a listing is laid out.
 #[derive(Clone, Copy, Debug, PartialEq, Eq)]
 #[repr(u32)]
@@ -449,9 +390,6 @@ extern "C" {
         flags: u32, rows: *mut HartRow, rows_length: usize, arrivals: *mut Arrival, arrivals_length: usize,
         lost: *mut LostRun, lost_length: usize, runs: *mut ByteRun, runs_length: usize, refused: *mut SentPlace,
         ended: *mut PathEnd) -> u32;
-    fn tracebench_audit_unnumbered(sent: *const u8, sent_length: usize, received: *const u8, received_length: usize,
-        flags: u32, rows: *mut AlignedRow, rows_length: usize, singles: *mut Single, singles_length: usize,
-        lost: *mut LostRun, lost_length: usize, refused: *mut SentPlace, ended: *mut AlignedEnd) -> u32;
     fn tracebench_write_message(hart: u16, number: u64, payload: *const u8, payload_length: usize, buffer: *mut u8,
         buffer_length: usize, wanted: *mut usize) -> u32;
     fn tracebench_read_message(bytes: *const u8, bytes_length: usize, message: *mut Message,
@@ -723,50 +661,6 @@ pub fn audit_all(
                 found.arrivals.resize(messages, Arrival::default());
                 found.lost.resize(lost_runs, LostRun::default());
                 found.runs.resize(byte_runs, ByteRun::default());
-            }
-            status => return Err((status, refused)),
-        }
-    }
-}
-
-/// The same by the payloads of the messages alone.
-pub fn audit_unnumbered(
-    sent: &[u8],
-    received: &[u8],
-    how: Compared,
-) -> Result<AlignedPath, (Status, SentPlace)> {
-    let (mut found, mut refused) = (AlignedPath::default(), SentPlace::default());
-    loop {
-        // SAFETY: as above.
-        let status = unsafe {
-            tracebench_audit_unnumbered(
-                sent.as_ptr(),
-                sent.len(),
-                received.as_ptr(),
-                received.len(),
-                how as u32,
-                found.rows.as_mut_ptr(),
-                found.rows.len(),
-                found.singles.as_mut_ptr(),
-                found.singles.len(),
-                found.lost.as_mut_ptr(),
-                found.lost.len(),
-                &mut refused,
-                &mut found.ended,
-            )
-        };
-        match Status(status) {
-            DONE => return Ok(found),
-            TOO_SMALL => {
-                let AlignedEnd {
-                    harts,
-                    singles,
-                    lost_runs,
-                    ..
-                } = found.ended;
-                found.rows.resize(harts, AlignedRow::default());
-                found.singles.resize(singles, Single::default());
-                found.lost.resize(lost_runs, LostRun::default());
             }
             status => return Err((status, refused)),
         }

@@ -29,7 +29,7 @@ complete -c tracebench -n '__tracebench_given check' -F
 complete -c tracebench -n '__tracebench_given check' -l base -x -d 'Address of the image'\''s first byte, in hexadecimal'
 complete -c tracebench -n '__tracebench_given check' -l also -x -d 'Further piece of the image, any number of times: address in hexadecimal, =, file'
 complete -c tracebench -n '__tracebench_given check' -l explain -d 'Print below an illegal row what is there and what may follow'
-complete -c tracebench -n '__tracebench_given check' -l symbols -r -F -d 'File of the program'\''s symbols, as `nm` prints them'
+complete -c tracebench -n '__tracebench_given check' -l symbols -r -F -d 'With --explain, file of the program'\''s symbols, as `nm` prints them'
 complete -c tracebench -n '__tracebench_given check' -l long -d 'Take logs of up to 4294967295 rows, not 16777216'
 complete -c tracebench -n '__tracebench_given check' -l progress -d 'Show how far the logs are read, where standard error is a terminal'
 

@@ -75,13 +75,6 @@ static uint32_t make_audit_all(const struct given *given, struct answer *answer)
                                 found->runs, given->harts & 8 ? MOST_RUNS : 0, &found->refused, FIRST);
 }
 
-static uint32_t make_audit_unnumbered(const struct given *given, struct answer *answer) {
-    struct found_aligned *found = SECOND;
-    return tracebench_audit_unnumbered(BYTES, OTHER, given->mode, found->rows, given->harts & 1 ? MOST_HART_ROWS : 0,
-                                       found->singles, given->harts & 2 ? MOST_ARRIVALS : 0, found->lost,
-                                       given->harts & 4 ? MOST_LOST : 0, &found->refused, FIRST);
-}
-
 MAKES(decode_all, OVER(tracebench_decode_all, given->harts, BYTES, BUFFER, SECOND, MOST_ENDS, FIRST))
 MAKES(list, OVER(tracebench_list, given->harts, BYTES, BESIDE, given->mode, BUFFER, FIRST))
 MAKES(salvage, OVER(tracebench_salvage, given->harts, BYTES, given->mode, BUFFER, FIRST))
@@ -104,10 +97,8 @@ TAKES(path_end_of, tracebench_path_end, first)
 TAKES(decode_all_end_of, tracebench_decode_all_end, first)
 TAKES(text_end_of, tracebench_text_end, first)
 TAKES(explain_end_of, tracebench_explain_end, first)
-static TAKES(aligned_end_of, tracebench_aligned_end, first)
 
 static uint32_t dump_fault(const struct answer *answer) { return dump_end_of(answer).fault; }
-static uint32_t aligned_fault(const struct answer *answer) { return aligned_end_of(answer).fault; }
 static uint32_t decode_all_fault(const struct answer *answer) { return decode_all_end_of(answer).fault; }
 static uint32_t text_fault(const struct answer *answer) { return text_end_of(answer).fault; }
 static uint32_t explain_fault(const struct answer *answer) { return explain_end_of(answer).fault; }
@@ -293,13 +284,6 @@ const struct call audit_all = {
     .written = WITH_DONE | WITH_TOO_SMALL | WITH_REFUSAL,
 };
 
-const struct call audit_unnumbered = {
-    .name = "audit_unnumbered", .make = make_audit_unnumbered, .statuses = of_audit_all, .faults = unread,
-    .fault = aligned_fault,
-    .first = {sizeof(struct tracebench_aligned_end), UP_TO(struct tracebench_aligned_end, whole)},
-    .second = {sizeof(struct found_aligned), 0}, .written = WITH_DONE | WITH_TOO_SMALL | WITH_REFUSAL,
-};
-
 const struct call decode_all = {
     .name = "decode_all", .make = make_decode_all, .takes_image = true, .statuses = of_decode_all, .faults = undecoded,
     .fault = decode_all_fault,
@@ -340,8 +324,8 @@ const struct call *const calls[CALLS] = {&pack, &unpack, &check, &encode, &dump,
                                          &follow, &check_events, &push_checked, &receive, &resume,
                                          &push_all, &feed_all, &version, &write_message, &read_message,
                                          &write_header, &read_header, &capture_of_lines, &audit_all, &decode_all,
-                                         &list_capture, &measure, &compare_logs, &explain, &audit_unnumbered,
-                                         &salvage, &list_salvaged};
+                                         &list_capture, &measure, &compare_logs, &explain, &salvage,
+                                         &list_salvaged};
 
 bool is_listed(const struct span *spans, uint32_t status) {
     for (; spans->from <= spans->to; spans++)

@@ -64,7 +64,7 @@ struct call {
     bool (*is_short)(const struct answer *answer); /* too small is what is given besides the buffer; NULL: never */
 };
 
-enum { CALLS = 32, STATUSES = 256 };
+enum { CALLS = 31, STATUSES = 256 };
 
 /* Room for what is found of a path: arrays of these lengths, one after the other behind the message that is refused. */
 enum { MOST_HART_ROWS = 4, MOST_ARRIVALS = 64, MOST_LOST = 32, MOST_RUNS = 32 };
@@ -76,14 +76,6 @@ struct found {
     struct tracebench_byte_run runs[MOST_RUNS];
 };
 
-/* The same of what is found of a path by payloads alone. */
-struct found_aligned {
-    struct tracebench_sent_place refused;
-    struct tracebench_aligned_row rows[MOST_HART_ROWS];
-    struct tracebench_single singles[MOST_ARRIVALS];
-    struct tracebench_lost_run lost[MOST_LOST];
-};
-
 /* The most elements that a call of many steps is given room for. */
 enum { MOST_AT_ONCE = 16 };
 
@@ -93,7 +85,7 @@ enum { MOST_ENDS = 32 };
 extern const struct call pack, unpack, check, encode, dump, encoder, push, finish, decoder, feed;
 extern const struct call follow, check_events, push_checked, receive, resume, push_all, feed_all, version;
 extern const struct call write_message, read_message, write_header, read_header, capture_of_lines, audit_all;
-extern const struct call decode_all, list_capture, measure, compare_logs, explain, audit_unnumbered;
+extern const struct call decode_all, list_capture, measure, compare_logs, explain;
 extern const struct call salvage, list_salvaged;
 
 /* All of them. */

@@ -12,7 +12,6 @@
 #include <stdlib.h>
 #include <string.h>
 
-#include "aligned.h"
 #include "corpus.h"
 #include "judge.h"
 #include "laws.h"
@@ -29,7 +28,7 @@ int main(int count, char **words) {
                                                       try_push_all, try_feed_all, try_version, try_messages,
                                                       try_headers, try_lines, try_audit_all, try_decode_all,
                                                       try_list, try_measure, try_compare, try_explain,
-                                                      try_audit_unnumbered, try_salvage};
+                                                      try_salvage};
     if (count < 4 || count > 5 || (count == 5 && strcmp(words[4], "rows") != 0)) {
         fputs("usage: fuzz-c CORPUS SEED COUNT [rows]\n", stderr);
         return 2;

@@ -3,32 +3,30 @@
 #include <stdlib.h>
 #include <string.h>
 
+#include "aligned.h"
 #include "draft.h"
 #include "draws.h"
 #include "judge.h"
 #include "told.h"
 
-/* SENT's messages. */
-enum { MOST_SENT = 4096 };
-static struct told sent[MOST_SENT];
-static size_t sent_count;
+static struct told_path path;
 
 static const struct told *sent_as(const struct told *one) {
-    for (size_t place = 0; place < sent_count; place++)
-        if (memcmp(sent[place].at, one->at, 10) == 0) return &sent[place];
+    for (size_t place = 0; place < path.sent_count; place++)
+        if (memcmp(path.sent[place].at, one->at, 10) == 0) return &path.sent[place];
     return NULL;
 }
 
-static bool is_true(const struct told *one, bool by_packets) {
+static bool is_true(const struct told *one) {
     const struct told *own = sent_as(one);
-    return own != NULL && are_same(own, one, by_packets);
+    return own != NULL && are_same(own, one, path.by_packets);
 }
 
 /* Whether the message at a place is taken, by the rules of `tracebench audit`. */
-static bool is_taken(const struct slice *bytes, size_t at, bool by_packets) {
+static bool is_taken(const struct slice *bytes, size_t at) {
     const struct told one = {bytes->at + at, length_at(bytes, at)};
     if (one.length == 0) return false;
-    if (is_true(&one, by_packets)) return true;
+    if (is_true(&one)) return true;
     const size_t next = at + one.length;
     if (next == bytes->length) return true;
     const struct told then = {bytes->at + next, length_at(bytes, next)};
@@ -38,35 +36,27 @@ static bool is_taken(const struct slice *bytes, size_t at, bool by_packets) {
     return last == bytes->length || length_at(bytes, last) != 0;
 }
 
-/* The messages that came, and the runs of bytes between. */
-static struct told came[MOST_SENT];
-static size_t came_count;
-static struct tracebench_byte_run runs[MOST_SENT];
-static size_t run_count, byte_count;
-
-static void read_received(const struct slice *bytes, bool by_packets) {
+static void read_received(const struct slice *bytes) {
     size_t at = begin_of(bytes);
-    came_count = run_count = byte_count = 0;
     while (at < bytes->length) {
-        if (is_taken(bytes, at, by_packets)) {
-            came[came_count++] = (struct told){bytes->at + at, length_at(bytes, at)};
-            at += came[came_count - 1].length;
+        if (is_taken(bytes, at)) {
+            path.came[path.came_count++] = (struct told){bytes->at + at, length_at(bytes, at)};
+            at += path.came[path.came_count - 1].length;
             continue;
         }
         const size_t from = at++;
         while (at < bytes->length) {
             const struct told one = {bytes->at + at, length_at(bytes, at)};
-            if (one.length != 0 && is_true(&one, by_packets)) break;
+            if (one.length != 0 && is_true(&one)) break;
             at++;
         }
-        runs[run_count++] = (struct tracebench_byte_run){from, at - from};
-        byte_count += at - from;
+        add_run(&path, from, at);
     }
 }
 
 /* What became of a message, by those before it. */
-static struct tracebench_arrival fate_of(size_t place, const uint8_t *first, bool by_packets) {
-    const struct told *one = &came[place];
+static struct tracebench_arrival fate_of(size_t place, const uint8_t *first) {
+    const struct told *one = &path.came[place];
     struct tracebench_arrival found;
     memset(&found, 0, sizeof found);
     found.number = number_of(one);
@@ -75,14 +65,14 @@ static struct tracebench_arrival fate_of(size_t place, const uint8_t *first, boo
     bool some = false, again = false;
     uint64_t greatest = 0;
     for (size_t earlier = 0; earlier < place; earlier++) {
-        if (hart_of(&came[earlier]) != hart_of(one) || !is_true(&came[earlier], by_packets)) continue;
-        const uint64_t number = number_of(&came[earlier]);
+        if (hart_of(&path.came[earlier]) != hart_of(one) || !is_true(&path.came[earlier])) continue;
+        const uint64_t number = number_of(&path.came[earlier]);
         again |= number == found.number;
         greatest = !some || number > greatest ? number : greatest;
         some = true;
     }
     if (sent_as(one) == NULL) found.fate = TRACEBENCH_FATE_STRANGER;
-    else if (!is_true(one, by_packets)) found.fate = TRACEBENCH_FATE_CHANGED;
+    else if (!is_true(one)) found.fate = TRACEBENCH_FATE_CHANGED;
     else if (again) found.fate = TRACEBENCH_FATE_REPEAT;
     else if (some && greatest > found.number) found.fate = TRACEBENCH_FATE_LATE;
     if (found.fate == TRACEBENCH_FATE_LATE) found.by = greatest - found.number;
@@ -90,23 +80,23 @@ static struct tracebench_arrival fate_of(size_t place, const uint8_t *first, boo
     return found;
 }
 
-static bool is_lost(const struct told *one, bool by_packets) {
-    for (size_t place = 0; place < came_count; place++)
-        if (memcmp(came[place].at, one->at, 10) == 0 && is_true(&came[place], by_packets)) return false;
+static bool is_lost(const struct told *one) {
+    for (size_t place = 0; place < path.came_count; place++)
+        if (memcmp(path.came[place].at, one->at, 10) == 0 && is_true(&path.came[place])) return false;
     return true;
 }
 
 static void judge_arrivals(const struct given *given, const struct found *found,
-                           const struct tracebench_path_end *ended, bool by_packets) {
+                           const struct tracebench_path_end *ended) {
     uint64_t strangers = 0, first = 0;
     bool has_first = false;
-    for (size_t place = 0; place < came_count; place++) {
-        const struct tracebench_arrival wanted = fate_of(place, given->other.at, by_packets);
+    for (size_t place = 0; place < path.came_count; place++) {
+        const struct tracebench_arrival wanted = fate_of(place, given->other.at);
         const bool plain = wanted.fate == TRACEBENCH_FATE_IN_ORDER && wanted.by == 0;
         strangers += wanted.fate == TRACEBENCH_FATE_STRANGER;
         first = !plain && !has_first ? place : first;
         has_first |= !plain;
-        if ((given->harts & 2) == 0 || came_count > MOST_ARRIVALS) continue;
+        if ((given->harts & 2) == 0 || path.came_count > MOST_ARRIVALS) continue;
         const struct tracebench_arrival *one = &found->arrivals[place];
         require(one->number == wanted.number && one->by == wanted.by && one->offset == wanted.offset &&
                     one->fate == wanted.fate && one->hart == wanted.hart,
@@ -116,29 +106,29 @@ static void judge_arrivals(const struct given *given, const struct found *found,
     require(ended->has_first == has_first && ended->first == first, &audit_all, "another first message");
 }
 
-static void judge_harts(const struct given *given, const struct found *found, const struct tracebench_path_end *ended,
-                        bool by_packets) {
+static void judge_harts(const struct given *given, const struct found *found,
+                        const struct tracebench_path_end *ended) {
     size_t lost_runs = 0;
     bool whole = true;
     for (size_t hart = 0; hart < ended->harts; hart++) {
         uint64_t count = 0, lost = 0, arrived = 0, last = 0;
         bool running = false, same = true;
-        for (size_t place = 0; place < sent_count; place++) {
-            if (hart_of(&sent[place]) != hart) continue;
-            const bool gone = is_lost(&sent[place], by_packets);
+        for (size_t place = 0; place < path.sent_count; place++) {
+            if (hart_of(&path.sent[place]) != hart) continue;
+            const bool gone = is_lost(&path.sent[place]);
             lost_runs += gone && !running;
             running = gone;
             lost += gone;
-            last = number_of(&sent[place]);
+            last = number_of(&path.sent[place]);
             if (gone && (given->harts & 4) != 0 && ended->lost_runs <= MOST_LOST)
                 require(found->lost[lost_runs - 1].hart == hart && found->lost[lost_runs - 1].first <= last &&
                             found->lost[lost_runs - 1].last >= last,
                         &audit_all, "another run of lost numbers");
             count++;
         }
-        for (size_t place = 0; place < came_count; place++) {
-            if (hart_of(&came[place]) != hart) continue;
-            same &= number_of(&came[place]) == arrived && is_true(&came[place], by_packets);
+        for (size_t place = 0; place < path.came_count; place++) {
+            if (hart_of(&path.came[place]) != hart) continue;
+            same &= number_of(&path.came[place]) == arrived && is_true(&path.came[place]);
             arrived++;
         }
         same &= arrived == count;
@@ -150,33 +140,41 @@ static void judge_harts(const struct given *given, const struct found *found, co
                 &audit_all, "another row of a hart");
     }
     require(ended->lost_runs == lost_runs, &audit_all, "another count of runs of lost numbers");
-    require(ended->whole == (whole && ended->strangers == 0 && ended->headers_differ == 0 && byte_count == 0 &&
+    require(ended->whole == (whole && ended->strangers == 0 && ended->headers_differ == 0 && path.byte_count == 0 &&
                              ended->header_fault == 0),
             &audit_all, "another verdict");
 }
 
 static void judge_path(const struct given *given, const struct answer *answer) {
-    const bool by_packets = given->mode == TRACEBENCH_BY_PACKETS;
     struct tracebench_path_end ended;
     static struct found found;
     memcpy(&ended, answer->first.at, sizeof ended);
     memcpy(&found, answer->second.at, sizeof found);
-    sent_count = 0;
-    for (size_t at = begin_of(&given->bytes); at < given->bytes.length; at += sent[sent_count - 1].length) {
-        if (sent_count == MOST_SENT) return;
-        sent[sent_count++] = (struct told){given->bytes.at + at, length_at(&given->bytes, at)};
+    path.by_packets = (given->mode & TRACEBENCH_BY_PACKETS) != 0;
+    path.sent_count = path.came_count = path.run_count = path.byte_count = 0;
+    for (size_t at = begin_of(&given->bytes); at < given->bytes.length; at += path.sent[path.sent_count - 1].length) {
+        if (path.sent_count == MOST_TOLD) return;
+        path.sent[path.sent_count++] = (struct told){given->bytes.at + at, length_at(&given->bytes, at)};
     }
-    read_received(&given->other, by_packets);
-    require(ended.messages == came_count && ended.byte_runs == run_count && ended.bytes == byte_count, &audit_all,
-            "other messages, or bytes of none");
-    require((given->harts & 8) == 0 || run_count > MOST_RUNS || memcmp(found.runs, runs, run_count * sizeof *runs) == 0,
+    const bool is_unnumbered = (given->mode & TRACEBENCH_UNNUMBERED) != 0;
+    if (is_unnumbered) read_by_payloads(&path, &given->other);
+    else read_received(&given->other);
+    require(ended.messages == path.came_count && ended.byte_runs == path.run_count && ended.bytes == path.byte_count,
+            &audit_all, "other messages, or bytes of none");
+    require((given->harts & 8) == 0 || path.run_count > MOST_RUNS ||
+                memcmp(found.runs, path.runs, path.run_count * sizeof *path.runs) == 0,
             &audit_all, "another run of bytes");
-    judge_arrivals(given, &found, &ended, by_packets);
-    judge_harts(given, &found, &ended, by_packets);
+    const bool has_arrivals = (given->harts & 2) != 0 && path.came_count <= MOST_ARRIVALS;
+    const bool has_lost = (given->harts & 4) != 0 && ended.lost_runs <= MOST_LOST;
+    if (!is_unnumbered) {
+        judge_arrivals(given, &found, &ended);
+        judge_harts(given, &found, &ended);
+    } else if ((path.came_count == 0 || has_arrivals) && (ended.lost_runs == 0 || has_lost)) {
+        judge_alignment(&path, given->other.at, &found, &ended, (given->harts & 1) != 0 && ended.harts <= MOST_HART_ROWS);
+    }
     const bool fits = (ended.harts == 0 || ((given->harts & 1) != 0 && ended.harts <= MOST_HART_ROWS)) &&
-                      (came_count == 0 || ((given->harts & 2) != 0 && came_count <= MOST_ARRIVALS)) &&
-                      (ended.lost_runs == 0 || ((given->harts & 4) != 0 && ended.lost_runs <= MOST_LOST)) &&
-                      (run_count == 0 || ((given->harts & 8) != 0 && run_count <= MOST_RUNS));
+                      (path.came_count == 0 || has_arrivals) && (ended.lost_runs == 0 || has_lost) &&
+                      (path.run_count == 0 || ((given->harts & 8) != 0 && path.run_count <= MOST_RUNS));
     require(answer->status == (fits ? TRACEBENCH_DONE : TRACEBENCH_TOO_SMALL), &audit_all,
             "another status than the arrays have");
 }
@@ -208,11 +206,11 @@ static void judge_refusal(const struct given *given, const struct answer *answer
 
 void try_audit_all(struct program *program) {
     struct given given = drawn_for_audit(program);
-    given.mode = one_in(16) ? (uint32_t)any_number() : (uint32_t)below(2);
+    given.mode = one_in(16) ? (uint32_t)any_number() : (uint32_t)below(4);
     given.harts = (uint16_t)(one_in(3) ? below(16) : 15);
-    if (given.bytes.length > 40000 || given.other.length > 40000) given.mode = 2;
+    if (given.bytes.length > 40000 || given.other.length > MOST_READ) given.mode = 4;
     struct answer answer = exercise(&audit_all, &given);
-    if (given.mode > TRACEBENCH_BY_PACKETS) {
+    if (given.mode > (TRACEBENCH_BY_PACKETS | TRACEBENCH_UNNUMBERED)) {
         require(answer.status == TRACEBENCH_OUT_OF_RANGE, &audit_all, "a flag that is not known is taken");
     } else if (is_answer(answer.status)) {
         judge_path(&given, &answer);

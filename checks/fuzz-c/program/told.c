@@ -36,3 +36,8 @@ bool are_same(const struct told *one, const struct told *other, bool by_packets)
            tracebench_unpack(other->at + HEAD, other->length - HEAD, &second) == TRACEBENCH_DONE &&
            memcmp(&first, &second, sizeof first) == 0;
 }
+
+void add_run(struct told_path *path, size_t from, size_t to) {
+    path->runs[path->run_count++] = (struct tracebench_byte_run){from, to - from};
+    path->byte_count += to - from;
+}

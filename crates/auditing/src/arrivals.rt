@@ -12,20 +12,25 @@ use crate::cursor::Cursor;
 use message::Message;
 use std::alloc::{AllocError, Allocator};
 
-/// What became of a message.
+/// What became of a message of RECEIVED, by the alignments of the harts of SENT.
 #[derive(Clone, Copy)]
-pub(crate) enum Arrival {
+pub enum Arrival {
     /// SENT has no message of its hart.
     Stranger,
     /// It is matched with no message of SENT.
     Extra,
-    /// It is matched with the message of this number, and there are so many numbers between it and the last one matched
-    /// before it.
-    Matched { number: u64, skips: u64 },
+    /// It is matched.
+    Matched {
+        /// The number of SENT that it is matched with.
+        number: u64,
+        /// How many numbers there are between it and the last one matched before it.
+        skips: u64,
+    },
 }
 
-/// The state of each hart before its first message.
-fn cursors<'a, A: Allocator>(
+/// How far the messages of each hart of SENT are taken, before the first, by the alignments of the harts
+/// ([`crate::aligned_harts`]). Memory is taken once.
+pub fn cursors<'a, A: Allocator>(
     alloc: A,
     all: &'a [Alignment<A>],
 ) -> Result<Vec<Cursor<'a>, A>, AllocError>
@@ -38,8 +43,8 @@ fn cursors<'a, A: Allocator>(
     Ok(cursors)
 }
 
-/// Takes the next message of RECEIVED, which is of this hart.
-fn take<A: Allocator>(cursors: &mut Vec<Cursor<'_>, A>, hart: u16) -> Arrival
+/// Takes the next message of RECEIVED, which is of this hart, and returns what became of it. No memory is taken.
+pub fn take<A: Allocator>(cursors: &mut Vec<Cursor<'_>, A>, hart: u16) -> Arrival
     ensures arrival { result ≡ arrival_of (slice_get cursors.old.items hart) }
     ensures moved { cursors.new.items ≡ moved cursors.old.items hart (slice_get cursors.old.items hart) }
 {

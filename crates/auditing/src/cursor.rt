@@ -7,9 +7,9 @@ ghost use Rattle.auditing.specs.Cursor.{Cursor as AnyCursor};
 use crate::arrivals::Arrival;
 use std::marker::Model;
 
-/// What is left of a hart's messages.
+/// How far the messages of a hart are taken. A clause sees what is left of them.
 #[derive(Drop)]
-pub(crate) struct Cursor<'a> {
+pub struct Cursor<'a> {
     /// The number of SENT that follows the last one matched.
     number: u64,
     /// The flags of SENT from there on.

@@ -12,8 +12,9 @@
 //!
 //! Where messages carry no numbers, a damaged RECEIVED is read by [`KnownPayloads`], the payloads that SENT has of each
 //! hart. Then SENT and RECEIVED are lists of messages. [`aligned_harts`] aligns the payloads of
-//! each hart of SENT. [`arrival_lines`] lists the messages of RECEIVED that are not matched or
-//! skip a number, [`counts_of`] and [`total_of`] count. The numbers of RECEIVED are not looked at.
+//! each hart of SENT. [`take`] returns what became of the next message of RECEIVED, [`arrival_lines`] lists the messages
+//! that are not matched or skip a number, [`counts_of`] and [`total_of`] count. The numbers of RECEIVED are not looked
+//! at.
 //!
 //! [`aligned`] matches payloads that came with payloads that were sent, in order on both sides. What was sent and is not
 //! matched is lost; what came and is not matched is extra. It matches as many as it can, within a bound on its search.
@@ -48,8 +49,9 @@ mod window;
 pub use aligned_counts::{AlignedTotal, HartCounts, counts_of, total_of};
 pub use aligning::{Alignment, aligned};
 pub use arrival_line::Line;
-pub use arrivals::{arrival_lines, lines_by_hart};
+pub use arrivals::{Arrival, arrival_lines, cursors, lines_by_hart, take};
 pub use audit::Audit;
+pub use cursor::Cursor;
 pub use exchange::Exchanged;
 pub use fate::Fate;
 pub use fault::SentFault;
@@ -64,3 +66,4 @@ pub use payload::By;
 pub use row::HartRow;
 pub use sent_payloads::{SentPayloads, aligned_harts};
 pub use tally::Tally;
+pub use window::MOST_EDITS;

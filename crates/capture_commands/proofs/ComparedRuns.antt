@@ -7,10 +7,11 @@ use Rattle.capture_commands.specs.declared.reason.CaptureReason.TheVariants.{Log
 use Rattle.output.specs.Begun.{AppendsBeginning}
 use Rattle.bench.specs.Got.{Got}
 use Rattle.captures.specs.declared.outcome.CaptureFault.{CaptureFault}
-use Rattle.comparing.proofs.LineTexts.{harts_numbered, sourced_whole}
+use Rattle.comparing.proofs.LineTexts.{harts_many, harts_numbered, sourced_whole}
+use Rattle.comparing.proofs.NoneEarly.{none_early}
 use Rattle.comparing.specs.Compared.{AreGotOf, is_compared_whole}
 use Rattle.comparing.specs.Explained.{are_whole_sourced, explained_harts, explained_text}
-use Rattle.comparing.specs.Sourced.{AreNumbered, AreSourced}
+use Rattle.comparing.specs.Sourced.{AreNumbered, AreSourced, StopsEarly}
 use Rattle.comparing.specs.declared.explained.ExplainedHart.{ExplainedHart}
 use Rattle.comparing.specs.declared.sourcing.SourcedHart.{SourcedHart}
 use Rattle.message.specs.declared.range.HartRange.{HartRange}
@@ -45,6 +46,16 @@ pub lines_numbered : (rows : ℕ) (content : Content) (program : Image) (paths :
     (lines : List ExplainedHart) → AreLinesOfLogs rows content program paths hart gots lines → AreNumbered hart lines
 lines_numbered rows content program paths hart gots lines are =
     subst (AreNumbered hart) (sym are.each) (harts_numbered hart gots are.logs)
+
+-- And decoding none of them stops before the message at which decoding the capture stops.
+pub lines_never_early : (rows : ℕ) (content : Content) (program : Image) (paths : List Path) (range : HartRange)
+    (harts : ℕ) (bytes : List ℕ) (gots : List Got) (stop : Option (ℕ × CaptureFault)) (lines : List ExplainedHart)
+    → AreLinesOfLogs rows content program paths range.first gots lines
+    → AreGotOf range (words_of program) harts bytes gots stop → ¬ StopsEarly (words_of program) bytes stop lines
+lines_never_early rows content program paths range harts bytes gots stop lines are got =
+    none_early range (words_of program) harts bytes gots stop lines got
+    (lines_numbered rows content program paths range.first gots lines are)
+    (ap length are.each ∙ harts_many range.first gots are.logs are.many)
 
 module _ (content : Content) (asked : Compare) (range : HartRange) (program : Image) (symbols : Option (List ℕ))
     (bytes : List ℕ) where

@@ -1,3 +1,4 @@
+mod PartTexts
 mod DecodedRuns
 mod ListedRuns
 mod InputRuns

@@ -14,7 +14,7 @@ use Rattle.command_inputs.specs.declared.words.Format.{Format}
 use Rattle.salvage_reports.proofs.OwnSpans.{runs_chosen}
 use Rattle.salvage_reports.specs.HartRows.{in_rows}
 use Rattle.capture_commands.specs.Faults.{Fault}
-use Rattle.capture_commands.specs.ListedFormats.{treated_in}
+use Rattle.capture_commands.specs.ListedFormats.{form_of, treated_in}
 use Rattle.capture_commands.specs.ListedSalvaged.{AreTreatedIn, TreatsHarts, messages_of}
 use Rattle.capture_commands.specs.Salvaging.{end_of_salvage_of}
 use Rattle.capture_commands.specs.steps.Reading.{IsFoundOf}
@@ -24,7 +24,9 @@ module _ (format : Format) (rows : Bool) (only : HartRange) (asked : Option ℕ)
     (bytes : List ℕ) (found : Found) (is : IsFoundOf only asked program bytes found) (treated : List Treated)
     (done : AreTreatedIn only asked program found.header bytes treated) where
   abbrev text : List ℕ
-  text = treated_in format rows only symbols found.header bytes (in_rows (messages_of only found.header bytes) treated)
+  text =
+      treated_in format rows only symbols found.header bytes
+      (in_rows (form_of format rows) (messages_of only found.header bytes) treated)
 
   -- What is done with each message is printed, and the end is that of salvaging.
   pub treated_printed : (ended : Result Status Fault)

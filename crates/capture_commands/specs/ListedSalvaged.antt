@@ -22,7 +22,7 @@ use Rattle.command_inputs.specs.declared.words.Format.{Format}
 use Rattle.command_inputs.specs.Printed.{First}
 use Rattle.capture_commands.specs.Faults.{Printed}
 use Rattle.capture_commands.specs.HartsFound.{HasHartFound}
-use Rattle.capture_commands.specs.ListedFormats.{treated_in}
+use Rattle.capture_commands.specs.ListedFormats.{form_of, treated_in}
 use Rattle.capture_commands.specs.Salvaging.{end_of_salvage_of}
 
 -- The messages of these harts' frames of a capture.
@@ -36,8 +36,8 @@ AreTreatedIn only asked program header bytes treated =
     AreTreated (words_of program) (mode_of header) (harts_counted asked header bytes) (messages_of only header bytes)
     treated
 
--- What salvaging does with each message of these harts of a capture, and which rows it settles, is written in a
--- format, and the run ends as one of `salvage` does: by the capture's header and by what is salvaged of them.
+-- What salvaging does with each message of these harts of a capture, and which rows it settles, where the format says
+-- them, is written in a format, and the run ends as one of `salvage` does: by the capture's header and by what is salvaged of them.
 pub record WritesTreated (format : Format) (rows : Bool) (only : HartRange) (asked : Option ℕ) (program : Image)
     (symbols : Option (List ℕ)) (bytes : List ℕ) (printed : Printed) : Type 0 where
   pub header : Option Header
@@ -47,7 +47,8 @@ pub record WritesTreated (format : Format) (rows : Bool) (only : HartRange) (ask
   pub treated : List Treated
   pub done : AreTreatedIn only asked program header bytes treated
   pub text : printed.text
-      ≡ treated_in format rows only symbols header bytes (in_rows (messages_of only header bytes) treated)
+      ≡ treated_in format rows only symbols header bytes
+      (in_rows (form_of format rows) (messages_of only header bytes) treated)
   pub ended : printed.ended ≡ end_of_salvage_of only why (list_any is_run (spans_of header bytes)) salvaged
 
 -- The same, where the capture has one of these harts.

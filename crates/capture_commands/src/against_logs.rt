@@ -13,7 +13,7 @@ ghost use Rattle.capture_commands.specs.Comparing.{ComparesCapture, ComparesInpu
 ghost use Rattle.capture_commands.specs.Comparison.{end_of_stop};
 ghost use Rattle.capture_commands.specs.steps.Inputs.{lent_in, names_in};
 ghost use Rattle.capture_commands.specs.steps.Surveyed.{IsSurveyed};
-ghost use Rattle.comparing.specs.Sourced.{AreNumbered, AreSourced};
+ghost use Rattle.comparing.specs.Sourced.{AreNumbered, AreSourced, StopsEarly};
 ghost use Rattle.rvclass.specs.Fetch.{words_of};
 
 use crate::hart_check::check_harts_below;
@@ -24,7 +24,7 @@ use crate::report::write_report;
 use crate::surveyed::{Surveyed, harts_below, surveyed_of};
 use captures::CaptureFault;
 use command_inputs::{Compare, Format, MessageProgress, Status};
-use comparing::{ExplainedHart, Explaining, SourcedHart, sources_of};
+use comparing::{ExplainedHart, Explaining, SourcedHart, SourcingFault, sources_of};
 use log_streams::Files;
 use std::alloc::Global;
 use std::io::Write;
@@ -145,15 +145,16 @@ where
     write_report(&how, harts, out)
 }
 
-/// What is said of the harts of an input, with the messages that their rows come from. The only fault is that an
-/// allocation failed.
+/// What is said of the harts of an input, with the messages that their rows come from. Decoding none of them stops before
+/// `stop`, so the only fault is that an allocation failed.
 fn sourced_lines<'a>(
     alloc: Global,
     input: &Input,
     stop: Option<(u64, CaptureFault)>,
     lines: &[ExplainedHart],
 ) -> Result<Vec<SourcedHart>, Fault<'a>>
-    requires { AreNumbered input.now.only.first lines.now }
+    requires numbered { AreNumbered input.now.only.first lines.now }
+    requires never { ¬ StopsEarly (words_of input.now.program.now) input.now.bytes.now stop lines.now }
     ensures sourced { IfOk result (λ sourced. AreSourced (words_of input.now.program.now) input.now.bytes.now stop lines.now
         sourced.items) }
     ensures fault { IfErr result (λ fault. fault ≡ Fault.Memory) }
@@ -161,6 +162,7 @@ fn sourced_lines<'a>(
     let first = usize::from(input.only.first);
     match sources_of(alloc, input.program, input.bytes, stop, first, lines) {
         Ok(sourced) => Ok(sourced),
-        Err(_) => Err(Fault::Memory),
+        Err(SourcingFault::Memory) => Err(Fault::Memory),
+        Err(SourcingFault::Stops) => unreachable!(),
     }
 }

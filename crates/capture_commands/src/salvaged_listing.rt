@@ -76,7 +76,8 @@ fn list_found<'a, F: Files, O: Write>(
         input.now.program.now (names_in input.now) input.now.bytes.now) (O.contents out.old) (O.contents out.new) }
 {
     let treated = treat_found(alloc, progress, asked.harts, input, found)?;
-    let rows = rows_found(alloc, asked.harts, input, found, treated.as_slice())?;
+    let form = form_of(asked.format, asked.rows);
+    let rows = rows_found(alloc, form, asked.harts, input, found, treated.as_slice())?;
     write_treated_in(asked, input, found.header, rows.as_slice(), out)?;
     out.flush()?;
     ended(found)
@@ -143,9 +144,11 @@ fn treat_found<F: Files>(
     )
 }
 
-/// Which rows of its hart each message settles that was found of an input, and with which this is done.
+/// Which rows of its hart each message settles that was found of an input, and with which this is done, where the form
+/// says rows.
 fn rows_found(
     alloc: Global,
+    form: Form,
     harts: Option<u16>,
     input: &Input,
     found: &Found,
@@ -153,9 +156,9 @@ fn rows_found(
 ) -> Result<Vec<TreatedInRows>, AllocError>
     requires { IsFoundOf input.now.only harts input.now.program.now input.now.bytes.now found.now }
     ensures { IfOk result (λ rows. rows.items
-        ≡ in_rows (messages_of input.now.only found.now.header input.now.bytes.now) treated.now) }
+        ≡ in_rows form (messages_of input.now.only found.now.header input.now.bytes.now) treated.now) }
 {
-    in_rows(alloc, found.frames.messages.as_slice(), treated)
+    in_rows(alloc, form, found.frames.messages.as_slice(), treated)
 }
 
 /// What is done with each of these messages. How far they are worked through is shown, where that is asked for, as the

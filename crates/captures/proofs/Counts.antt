@@ -153,13 +153,14 @@ module _ (numbers : Option ℕ) (counts lows : List ℕ) (earlier : List Message
     lowest = lowest_at;
   }
 
--- The messages of a pass are those of the lines that it passes, after these messages, and so are its fault and the count
--- of lines that are skipped.
+-- The messages of a pass are those of the lines that it passes, after these messages, and so are its fault and the
+-- count of lines that are skipped.
 pub record Fits (numbers : Option ℕ) (skip : Bool) (passed : PassedLines) (earlier : List Message) (found : List Found)
     (its : Pass) : Type 0 where
   pub messages : its.messages ≡ messages_after numbers earlier (said_in (passed_of skip found))
   pub stop : its.stop ≡ stop_of skip (faults_in (passed.lines + 1) (passed_of skip found))
-  pub skipped : its.passed.skipped ≡ passed.skipped + skips_of skip (faults_in (passed.lines + 1) (passed_of skip found))
+  pub skipped : its.passed.skipped
+      ≡ passed.skipped + skips_of skip (faults_in (passed.lines + 1) (passed_of skip found))
 
 module _ (numbers : Option ℕ) (line : List ℕ) (more : Option Form → List Found) (later : PassedLines → Pass) where
   faulty : (skip : Bool) (why : LineFault) (passed : PassedLines) (earlier : List Message)
@@ -212,10 +213,12 @@ no_skips true count = omega arith
 no_skips false count = omega arith
 
 -- What comes of lines that are passed is what is found in them.
-pub pass_is : (settings : Settings) (skip : Bool) (lines : List (List ℕ)) (passed : PassedLines) (earlier : List Message)
+pub pass_is : (settings : Settings) (skip : Bool) (lines : List (List ℕ)) (passed : PassedLines)
+    (earlier : List Message)
     → Agree settings.numbers passed.counts passed.lows earlier
     → Fits settings.numbers skip passed earlier (found_in settings passed.form lines) (pass settings skip passed lines)
-pass_is settings skip [] passed earlier agree = record { messages = refl; stop = no_stop skip; skipped = no_skips skip passed.skipped }
+pass_is settings skip [] passed earlier agree =
+    record { messages = refl; stop = no_stop skip; skipped = no_skips skip passed.skipped }
 pass_is settings skip (line ∷ lines) passed earlier agree =
     one_line settings.numbers line (λ known. found_in settings known lines) (λ passed. pass settings skip passed lines)
     skip passed earlier agree (λ passed earlier agree. pass_is settings skip lines passed earlier agree)

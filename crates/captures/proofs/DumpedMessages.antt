@@ -19,9 +19,10 @@ use Rattle.message.specs.declared.range.HartRange.{HartRange}
 use Rattle.captures.proofs.Reaching.{capture_next}
 use Rattle.captures.specs.Dump.{has_bad_payload, dump_line, dump_text}
 
--- So many messages stand before the bytes that are left, the flag says whether a payload of those of these harts is bad,
--- and the lines of these were appended.
-pub record HasDumped (symbols : Option (List ℕ)) (harts : HartRange) (mode : Mode) (bytes left : List ℕ) (count : ℕ) (bad : Bool)
+-- So many messages stand before the bytes that are left, the flag says whether a payload of those of these harts is
+-- bad, and the lines of these were appended.
+pub record HasDumped (symbols : Option (List ℕ)) (harts : HartRange) (mode : Mode) (bytes left : List ℕ) (count : ℕ)
+    (bad : Bool)
     (old new : Option (List ℕ)) : Type 0 where
   pub messages : List Message
   pub ranges : All IsMessage messages
@@ -32,12 +33,14 @@ pub record HasDumped (symbols : Option (List ℕ)) (harts : HartRange) (mode : M
   pub room : count + length left ≤ length bytes
 
 -- One message more.
-pub dumped-next : (symbols : Option (List ℕ)) (harts : HartRange) (mode : Mode) (bytes left next : List ℕ) (count : ℕ) (bad : Bool) (m : Message)
+pub dumped-next : (symbols : Option (List ℕ)) (harts : HartRange) (mode : Mode) (bytes left next : List ℕ) (count : ℕ)
+    (bad : Bool) (m : Message)
     (old before after : Option (List ℕ))
     → HasDumped symbols harts mode bytes left count bad old before
     → IsMessage m → Appends before after (dump_text symbols mode (selected harts (m ∷ [])))
     → left ≡ message_bytes m ++ next → length next < length left
-    → HasDumped symbols harts mode bytes next (count + 1) (bad || list_any has_bad_payload (selected harts (m ∷ []))) old after
+    → HasDumped symbols harts mode bytes next (count + 1) (bad || list_any has_bad_payload (selected harts (m ∷ [])))
+    old after
 dumped-next symbols harts mode bytes left next count bad m old before after so_far is line begins fewer =
     let messages = so_far.messages in
     let more = length-append messages (m ∷ []) in

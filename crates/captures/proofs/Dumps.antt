@@ -1,7 +1,6 @@
 -- What a dump of bytes has, and beginnings of it.
 use Rattle.std.proofs.Common.{◌≡◌, ◌≤◌, ◌<◌, ◌++◌, Bool, ℕ, zero, suc, List, [], ◌∷◌, Option, Some, None, inl, inr}
-use Rattle.std.proofs.Common.{length}
-use Rattle.std.proofs.Common.{refl, sym, ap, subst, ◌∙◌, arith, append_assoc}
+use Rattle.std.proofs.Common.{length, refl, sym, ap, subst, ◌∙◌, arith, append_assoc}
 use Rattle.std.specs.Prelude.{All}
 use Rattle.std.specs.List.{list_any}
 use Rattle.std.proofs.lemmas.List.{length-append}
@@ -107,7 +106,8 @@ text_joined symbols harts mode front back =
     ∙ flat_map-append (dump_line symbols mode) (selected harts front) (selected harts back)
 
 -- Messages were dumped, and a beginning of the line of the next.
-pub dump_begun : (symbols : Option (List ℕ)) (harts : HartRange) (mode : Mode) (bytes left next : List ℕ) (count : ℕ) (bad : Bool) (m : Message)
+pub dump_begun : (symbols : Option (List ℕ)) (harts : HartRange) (mode : Mode) (bytes left next : List ℕ) (count : ℕ)
+    (bad : Bool) (m : Message)
     (old mid new : Option (List ℕ))
     → AreBytes bytes → HasDumped symbols harts mode bytes left count bad old mid → IsMessage m
     → left ≡ message_bytes m ++ next → AppendsBeginning (dump_text symbols mode (selected harts (m ∷ []))) mid new
@@ -144,7 +144,8 @@ dump_begun symbols harts mode bytes left next count bad m old mid new are so_far
         ends = ends_at (length all) later.rest later.why later.ends;
       };
       begun = subst (λ (l : List ℕ). AppendsBeginning l old new) (sym text)
-          (begun_between (dump_text symbols mode (selected harts so_far.messages)) (dump_text symbols mode (selected harts (m ∷ [])))
+          (begun_between (dump_text symbols mode (selected harts so_far.messages))
+          (dump_text symbols mode (selected harts (m ∷ [])))
           (dump_text symbols mode (selected harts later.messages)) old mid new so_far.text begun);
     }
 
@@ -155,7 +156,8 @@ pub record HasDump (symbols : Option (List ℕ)) (harts : HartRange) (mode : Mod
   pub fault : Option (ℕ × MessageFault)
   pub dumped : AreMessagesDumped symbols harts mode bytes bad fault text
 
-pub has_dump : (symbols : Option (List ℕ)) (harts : HartRange) (mode : Mode) (bytes : List ℕ) → AreBytes bytes → HasDump symbols harts mode bytes
+pub has_dump : (symbols : Option (List ℕ)) (harts : HartRange) (mode : Mode) (bytes : List ℕ) → AreBytes bytes
+    → HasDump symbols harts mode bytes
 has_dump symbols harts mode bytes are =
     let all = parted (length bytes) bytes (omega arith) are in
     record {

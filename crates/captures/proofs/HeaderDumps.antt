@@ -15,7 +15,8 @@ use Rattle.captures.specs.Dump.{AppendsDump, AreMessagesDumped, BeginsDump, IsDu
 use Rattle.captures.specs.NoMessage.{BeginsNoHeader}
 
 -- There is no header, for this reason.
-pub none_dumped : (symbols : Option (List ℕ)) (harts : HartRange) (bytes : List ℕ) (why : MessageFault) (old : Option (List ℕ)) → BeginsNoHeader bytes why
+pub none_dumped : (symbols : Option (List ℕ)) (harts : HartRange) (bytes : List ℕ) (why : MessageFault)
+    (old : Option (List ℕ)) → BeginsNoHeader bytes why
     → AppendsDump (IsDumpOf symbols harts bytes) false (Some (0, why)) old old
 none_dumped symbols harts bytes why old begins = record {
   text = [];
@@ -23,7 +24,8 @@ none_dumped symbols harts bytes why old begins = record {
   appended = Appends-nil old;
 }
 
-module _ (symbols : Option (List ℕ)) (harts : HartRange) (bytes : List ℕ) (unmarked : ¬ IsMarked bytes) (old new : Option (List ℕ)) where
+module _ (symbols : Option (List ℕ)) (harts : HartRange) (bytes : List ℕ) (unmarked : ¬ IsMarked bytes)
+    (old new : Option (List ℕ)) where
   -- Messages alone were dumped.
   pub messages_dumped : (bad : Bool) (stop : Option (ℕ × MessageFault))
       → AppendsDump (AreMessagesDumped symbols harts Differential bytes) bad stop old new
@@ -32,7 +34,8 @@ module _ (symbols : Option (List ℕ)) (harts : HartRange) (bytes : List ℕ) (u
       record { text = all.text; dumped = IsDumpOf.Version1 unmarked all.dumped; appended = all.appended }
 
   -- A beginning of them was.
-  pub messages_begun : BeginsDump (AreMessagesDumped symbols harts Differential bytes) old new → BeginsDump (IsDumpOf symbols harts bytes) old new
+  pub messages_begun : BeginsDump (AreMessagesDumped symbols harts Differential bytes) old new
+      → BeginsDump (IsDumpOf symbols harts bytes) old new
   messages_begun some = record {
     text = some.text;
     bad = some.bad;
@@ -41,7 +44,8 @@ module _ (symbols : Option (List ℕ)) (harts : HartRange) (bytes : List ℕ) (u
     begun = some.begun;
   }
 
-module _ (symbols : Option (List ℕ)) (harts : HartRange) (bytes : List ℕ) (header : Header) (rest : List ℕ) (is : IsHeader header)
+module _ (symbols : Option (List ℕ)) (harts : HartRange) (bytes : List ℕ) (header : Header) (rest : List ℕ)
+    (is : IsHeader header)
     (whole : bytes ≡ header_bytes header ++ rest) where
   -- A beginning of the line of a header was written.
   pub line_begun : (old new : Option (List ℕ)) → AreBytes rest → AppendsBeginning (header_line header) old new
@@ -68,7 +72,8 @@ module _ (symbols : Option (List ℕ)) (harts : HartRange) (bytes : List ℕ) (h
     }
 
     -- A beginning of them was, behind the line.
-    pub headed_begun : BeginsDump (AreMessagesDumped symbols harts header.mode rest) mid new → BeginsDump (IsDumpOf symbols harts bytes) old new
+    pub headed_begun : BeginsDump (AreMessagesDumped symbols harts header.mode rest) mid new
+        → BeginsDump (IsDumpOf symbols harts bytes) old new
     headed_begun some = record {
       text = header_line header ++ some.text;
       bad = some.bad;

@@ -31,9 +31,9 @@ mod Fields
 mod Lowest
 pub mod Passes
 mod Known
-pub mod Counts
+mod Counts
 mod Whole
-mod StreamedCaptures
+pub mod StreamedCaptures
 mod HexLineRead
 mod SentMessages
 mod HexTextRead

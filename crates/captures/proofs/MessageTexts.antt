@@ -187,6 +187,7 @@ next_hart_begun text old mid new period mode first i hart logs log within is num
     ap (λ l. flat_map text (messages_of_harts period mode first l)) (sym (take-append-drop (i + 1) logs))
     ∙ ap (flat_map text) (messages_of_harts-append period mode first (take (i + 1) logs) (drop (i + 1) logs))
     ∙ flat_map-append text front later
-    ∙ ap (λ l. l ++ flat_map text later) (text-take_more_harts text period mode first i hart logs log within is number) in
+    ∙ ap (λ l. l ++ flat_map text later) (text-take_more_harts text period mode first i hart logs log within is number)
+    in
     subst (λ l. AppendsBeginning l old new) (sym all)
     (begun_in_front (before ++ here) (flat_map text later) old new (begun_behind before here old mid new written begun))

@@ -10,8 +10,8 @@ use Rattle.output.proofs.Beginnings.{begun_behind, begun_between, begun_in_front
 use Rattle.message.specs.Capture.{capture, message_bytes}
 use Rattle.message.specs.declared.message.Message.{Message}
 use Rattle.captures.specs.Line.{line_of}
-use Rattle.captures.specs.Pass.{IsPassed, Pass, after_fault, after_line, after_none, no_pass, pass, pass_fault, pass_found}
-use Rattle.captures.specs.Pass.{then_pass}
+use Rattle.captures.specs.Pass.{IsPassed, Pass, after_fault, after_line, after_none, no_pass, pass, pass_fault}
+use Rattle.captures.specs.Pass.{pass_found, then_pass}
 use Rattle.captures.specs.Streamed.{Found, form_or}
 use Rattle.captures.specs.declared.line_fault.LineFault.{LineFault}
 use Rattle.captures.specs.declared.line_fault.LinesFault.{LinesFault}
@@ -78,7 +78,7 @@ pass_parts settings skip (line ∷ front) back passed =
     (λ passed. pass settings skip passed back) (λ passed. pass_parts settings skip front back passed)
     settings.numbers skip passed (form_or passed.form line) (line_of settings (form_or passed.form line) line)
 
-goes_on : (stop : Option LinesFault) (first later : Pass) → stop ≡ None
+pub goes_on : (stop : Option LinesFault) (first later : Pass) → stop ≡ None
     → go_on stop first later ≡ then_pass first.messages later
 goes_on None first later none = refl
 goes_on (Some why) first later none = cc
@@ -240,7 +240,8 @@ never_stops : (stop : Option LinesFault) (why : LinesFault) → stop ≡ None �
 never_stops stop why none is = cc
 
 pub all_written : (start : List ℕ) (its : Pass) (passed : PassedLines) (old mid new : Option (List ℕ))
-    (result : Result (Unit {0}) LinesFault) → its.stop ≡ None → Appends old mid start → IsPassed [] its result passed mid new
+    (result : Result (Unit {0}) LinesFault) → its.stop ≡ None → Appends old mid start
+    → IsPassed [] its result passed mid new
     → IsWritten (start ++ capture its.messages) result old new
 all_written start its passed old mid new (Ok done) right first (none, is, more) =
     let all = Appends-trans old mid new start (capture its.messages) first more in

@@ -23,8 +23,8 @@ use Rattle.captures.specs.Decoded.{AreHartsDecoded, BeginsRefusedOf, StopsDecodi
 use Rattle.captures.specs.steps.Collecting.{HasReceivedUpTo}
 use Rattle.captures.specs.declared.outcome.CaptureFault.{CaptureFault}
 
--- So many messages were gone through, and those of these harts received. None of these opens a trace in another mode than
--- the announced one, and these bytes are left.
+-- So many messages were gone through, and those of these harts received. None of these opens a trace in another mode
+-- than the announced one, and these bytes are left.
 pub record ReachesOf (range : HartRange) (words : Words) (harts : ℕ) (announced : Option Mode) (bytes left : List ℕ)
     (number : ℕ) (received : Received) : Type 0 where
   pub messages : List Message

@@ -55,4 +55,5 @@ messages_are_of period mode harts hart (log ∷ logs) room few legal =
     (omega (arith, count, short))
     (packets_in_profile words (words_of-IsProgram log.program log_is.image).even period mode log.events
     log_is.numbers log_is.legal))
-    (messages_are_of period mode harts (hart + 1) logs (omega (arith, room)) few (All-tail IsLongLegalLog log logs legal))
+    (messages_are_of period mode harts (hart + 1) logs (omega (arith, room)) few
+    (All-tail IsLongLegalLog log logs legal))

@@ -1,21 +1,25 @@
 -- Lines as they come become the capture of their text, where no line has a fault, and else end at the first one.
-use Rattle.std.proofs.Common.{◌≡◌, ◌++◌, ◌∙◌, ap, refl, ℕ, Bool, List, [], Option, Some, None, Result, Ok, Err}
-use Rattle.std.proofs.Common.{false}
+use Rattle.std.proofs.Common.{◌≡◌, ◌++◌, ◌∷◌, ◌∙◌, ap, arith, refl, ℕ, Bool, List, [], Option, Some, None, Result, Ok}
+use Rattle.std.proofs.Common.{Err, false}
 use Rattle.std.specs.Prelude.{unwrap_or}
 use Rattle.std.specs.Str.Lines.{lines}
 use Rattle.captures.specs.Capture.{capture_of_text, capture_or_fault, header_with}
 use Rattle.captures.specs.Lines.{harts_up_to, lines_of, messages_of}
+use Rattle.captures.specs.Pass.{no_lines, pass, pass_bytes, skipped_of, text_pass, then_pass}
 use Rattle.captures.specs.Streamed.{Found, HasKnownStart, faults_in, found_in, known_form, passed_of, said_in}
-use Rattle.captures.specs.Streamed.{stop_of, streamed_bytes, streamed_faults}
+use Rattle.captures.specs.Streamed.{skips_of, stop_of, streamed_bytes, streamed_faults}
 use Rattle.captures.specs.Versions.{start_bytes}
 use Rattle.captures.specs.declared.line_fault.LinesFault.{LinesFault}
 use Rattle.captures.specs.declared.capture_line.Line.{Line}
 use Rattle.captures.specs.declared.line_settings.Settings.{Settings}
+use Rattle.captures.specs.declared.passed_lines.PassedLines.{PassedLines}
 use Rattle.message.specs.Capture.{capture}
 use Rattle.message.specs.declared.header.Version.{Version}
 use Rattle.message.specs.declared.header.Version.TheVariants.{One, Two}
 use Rattle.payload.specs.declared.mode.Mode.{Mode}
-use Rattle.captures.proofs.Counts.{IsSaid, text_right}
+use Rattle.captures.proofs.Counts.{Fits, IsSaid, agree_none, pass_is, text_right}
+use Rattle.captures.proofs.LinesInParts.{lines_behind_feed}
+use Rattle.captures.proofs.Passes.{goes_on, pass_parts}
 
 same_start : (version : Version) (harts : Option ℕ) (mode : Mode) (period some other : ℕ) → HasKnownStart version harts
     → start_bytes version (record { mode = mode; period = period; harts = unwrap_or harts some })
@@ -71,3 +75,35 @@ pub first_fault_streamed : (settings : Settings) (skip : Bool) (text : List ℕ)
 first_fault_streamed settings skip text why is =
     first_fault settings skip (lines_of settings text)
     (found_in settings (known_form settings.numbers) (lines text)) why is (text_right skip settings text)
+
+-- What is written of a text is what is written of the lines that are passed.
+module _ (settings : Settings) (skip : Bool) (text : List ℕ) where
+  fits : Fits settings.numbers skip (no_lines (known_form settings.numbers)) []
+      (found_in settings (known_form settings.numbers) (lines text)) (text_pass settings skip text)
+  fits =
+      pass_is settings skip (lines text) (no_lines (known_form settings.numbers)) [] (agree_none settings.numbers)
+
+  pub bytes_are : pass_bytes settings skip text ≡ streamed_bytes settings skip text
+  bytes_are = ap (λ messages. start_bytes settings.version (header_with settings 1) ++ capture messages) fits.messages
+
+  pub stop_is : (text_pass settings skip text).stop ≡ stop_of skip (streamed_faults settings skip text)
+  stop_is = fits.stop
+
+  pub skips_are : skipped_of (text_pass settings skip text).passed ≡ skips_of skip (streamed_faults settings skip text)
+  skips_are = omega (arith, fits.skipped)
+
+  pub passed_lines_stream : (pass_bytes settings skip text ≡ streamed_bytes settings skip text)
+      × ((text_pass settings skip text).stop ≡ stop_of skip (streamed_faults settings skip text))
+      × (skipped_of (text_pass settings skip text).passed ≡ skips_of skip (streamed_faults settings skip text))
+  passed_lines_stream = (bytes_are, stop_is, skips_are)
+
+pub parts_passed : (settings : Settings) (skip : Bool) (passed : PassedLines) (front back : List ℕ)
+    → (pass settings skip passed (lines (front ++ (10 ∷ [])))).stop ≡ None
+    → pass settings skip passed (lines ((front ++ (10 ∷ [])) ++ back))
+    ≡ then_pass (pass settings skip passed (lines (front ++ (10 ∷ [])))).messages
+    (pass settings skip (pass settings skip passed (lines (front ++ (10 ∷ [])))).passed (lines back))
+parts_passed settings skip passed front back none =
+    let first = pass settings skip passed (lines (front ++ (10 ∷ []))) in
+    ap (pass settings skip passed) (lines_behind_feed front back)
+    ∙ pass_parts settings skip (lines (front ++ (10 ∷ []))) (lines back) passed
+    ∙ goes_on first.stop first (pass settings skip first.passed (lines back)) none

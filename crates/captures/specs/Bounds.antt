@@ -20,7 +20,7 @@ pub record AreWithin (limit : ℕ) (m : Measures) : Type 0 where
   pub payload_bytes : m.payload_bytes ≤ limit * most_bytes
   pub longest : m.longest ≤ most_bytes
 
--- No count of at most 2^32 - 1 events is greater, whatever the events are. A legal log has at most two packets more than
--- events.
+-- No count of at most 2^32 - 1 events is greater, whatever the events are. A legal log has at most two packets more
+-- than events.
 abbrev pub most_counted : ℕ
 most_counted = 2 ^ 33 + 1

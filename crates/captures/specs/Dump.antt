@@ -1,6 +1,5 @@
 -- What the dump of a capture finds.
-use Rattle.std.specs.Prelude.{ℕ, ◌≡◌, ◌++◌, All, Bool, false, List, [], Option, Some, None, Result, codes}
-use Rattle.std.specs.Prelude.{length}
+use Rattle.std.specs.Prelude.{ℕ, ◌≡◌, ◌++◌, All, Bool, false, List, [], Option, Some, None, Result, codes, length}
 use Rattle.std.specs.Fmt.{decimal}
 use Rattle.std.specs.Io.KnownBytes.{Appends}
 use Rattle.std.specs.List.{flat_map, list_any}
@@ -31,8 +30,8 @@ abbrev pub Ends : ℕ → List ℕ → Option (ℕ × MessageFault) → Type 0
 Ends count rest None = rest ≡ []
 Ends count rest (Some fault) = (fault.0 ≡ count) × BeginsNone rest fault.1
 
--- The line of a message whose payload unpacks to this, up to what its address is named: the hart's number, the message's,
--- and the text of the payload, whose address field is named by this mode.
+-- The line of a message whose payload unpacks to this, up to what its address is named: the hart's number, the
+-- message's, and the text of the payload, whose address field is named by this mode.
 abbrev pub line_start : Mode → Message → Result Packet PackFault → List ℕ
 line_start mode message read =
     decimal message.hart ++ (codes " " ++ (decimal message.number ++ (codes " " ++ reading_text mode read)))

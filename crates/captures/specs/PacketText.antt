@@ -86,8 +86,8 @@ abbrev pub field_address : Mode → ℕ → Option ℕ
 field_address Differential delta = None
 field_address Full delta = Some delta
 
--- The address that a payload reports, in this mode: that of a sync or a trap packet, and in full mode that of an address
--- packet.
+-- The address that a payload reports, in this mode: that of a sync or a trap packet, and in full mode that of an
+-- address packet.
 abbrev pub reading_address : Mode → Result Packet PackFault → Option ℕ
 reading_address mode (Ok (packet.Sync taken privilege address)) = Some address
 reading_address mode (Ok (packet.Trap taken privilege cause interrupt handler address tval)) = Some address

@@ -2,11 +2,14 @@
 use Rattle.std.specs.Prelude.{◌≡◌, ◌⊎◌, ℕ, ◌+◌, ◌++◌, if◌then◌else◌, Bool, List, [], ◌∷◌, replicate, Option, Some, None}
 use Rattle.std.specs.Prelude.{Result, Ok, Err}
 use Rattle.std.specs.Io.KnownBytes.{Appends}
+use Rattle.std.specs.Str.Lines.{lines}
 use Rattle.output.specs.Begun.{AppendsBeginning}
 use Rattle.message.specs.Capture.{capture}
 use Rattle.message.specs.declared.message.Message.{Message}
+use Rattle.captures.specs.Capture.{header_with}
 use Rattle.captures.specs.Line.{line_of}
-use Rattle.captures.specs.Streamed.{Found, form_or}
+use Rattle.captures.specs.Streamed.{Found, form_or, known_form, skips_of, stop_of, streamed_bytes, streamed_faults}
+use Rattle.captures.specs.Versions.{start_bytes}
 use Rattle.captures.specs.declared.line_fault.LineFault.{LineFault}
 use Rattle.captures.specs.declared.line_fault.LinesFault.{LinesFault}
 use Rattle.captures.specs.declared.line_fault.LinesFault.TheVariants as fault
@@ -91,3 +94,31 @@ IsPassed start its (Ok done) passed old new =
 IsPassed start its (Err why) passed old new =
     ((why ≡ fault.Write) × AppendsBeginning (start ++ capture its.messages) old new)
     ⊎ ((its.stop ≡ Some why) × (passed ≡ its.passed) × Appends old new (start ++ capture its.messages))
+
+-- The lines of a text are passed, from its first on.
+abbrev pub text_pass : Settings → Bool → List ℕ → Pass
+text_pass settings skip text = pass settings skip (no_lines (known_form settings.numbers)) (lines text)
+
+-- What a capture begins with, and the messages of the lines of a text that are passed.
+abbrev pub pass_bytes : Settings → Bool → List ℕ → List ℕ
+pass_bytes settings skip text =
+    start_bytes settings.version (header_with settings 1) ++ capture (text_pass settings skip text).messages
+
+-- A text whose lines are passed is one whose lines are written as they come: the same bytes are written, the same fault
+-- ends it, and as many lines are skipped.
+abbrev pub PassedLinesStream : Type 0
+PassedLinesStream =
+    (settings : Settings) (skip : Bool) (text : List ℕ)
+    → (pass_bytes settings skip text ≡ streamed_bytes settings skip text)
+    × ((text_pass settings skip text).stop ≡ stop_of skip (streamed_faults settings skip text))
+    × (skipped_of (text_pass settings skip text).passed ≡ skips_of skip (streamed_faults settings skip text))
+
+-- The lines of a text in two parts, the first of which ends with a line feed, are passed part by part, where no fault
+-- ends the first.
+abbrev pub PartsArePassed : Type 0
+PartsArePassed =
+    (settings : Settings) (skip : Bool) (passed : PassedLines) (front back : List ℕ)
+    → (pass settings skip passed (lines (front ++ (10 ∷ [])))).stop ≡ None
+    → pass settings skip passed (lines ((front ++ (10 ∷ [])) ++ back))
+    ≡ then_pass (pass settings skip passed (lines (front ++ (10 ∷ [])))).messages
+    (pass settings skip (pass settings skip passed (lines (front ++ (10 ∷ [])))).passed (lines back))

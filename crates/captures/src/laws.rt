@@ -1,5 +1,6 @@
 //! Facts that follow from the definition of a text's capture.
 
+ghost use Rattle.captures.specs.Pass.{PartsArePassed, PassedLinesStream};
 ghost use Rattle.captures.specs.ReadBack.{LinesBecomeTheCapture, LinesSayTheirMessages};
 ghost use Rattle.captures.specs.Recovered.{LowNumbersAreRecovered};
 ghost use Rattle.captures.specs.Streamed.{LinesStreamTheCapture, LinesStreamTheirFirstFault};
@@ -23,9 +24,15 @@ pub fn low_numbers_are_recovered()
     ensures { LowNumbersAreRecovered }
 {}
 
-/// Lines that are written as they come become the capture of their text, where no line has a fault and it is known before
-/// them what the capture begins with. Where a line has a fault, the first fault of the text is the first that they have.
+/// Lines that are written as they come become the capture of their text, where no line has a fault and it is known
+/// before them what the capture begins with. Where a line has a fault, the first fault of the text is the first that
+/// they have.
+///
+/// They are the lines that [`PassedLines`](crate::PassedLines) passes: the same bytes are written, the same fault ends
+/// them, and as many are skipped. A text may come in parts, each of whole lines.
 pub fn lines_stream_the_capture()
     ensures capture { LinesStreamTheCapture }
     ensures fault { LinesStreamTheirFirstFault }
+    ensures passed { PassedLinesStream }
+    ensures parts { PartsArePassed }
 {}

@@ -13,6 +13,7 @@ mod logs;
 mod memory;
 mod messages;
 mod outcomes;
+mod ports;
 mod queue;
 mod reading;
 mod reports;

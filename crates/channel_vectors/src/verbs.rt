@@ -1,5 +1,6 @@
 //! The verbs.
 
+use crate::ports::{self, Ends};
 use crate::queue::{self, Queue};
 use crate::{collecting, logs, messages, reading, reports, runs, split, streams};
 use cases::Case;
@@ -8,13 +9,14 @@ use rvclass::Program;
 use std::sync::Wait;
 use std::thread::Threads;
 
-/// What gives the results of cases: the program of all logs, and the demultiplexer and the queue that earlier cases
-/// made.
+/// What gives the results of cases: the program of all logs, and the demultiplexer, the queue and the channel that
+/// earlier cases made.
 #[derive(Drop)]
 pub(crate) struct Vectors<'p> {
     program: &'p Program,
     demux: Option<Demux>,
     queue: Option<Queue>,
+    ends: Option<Ends>,
 }
 
 impl<'p> Vectors<'p> {
@@ -23,6 +25,7 @@ impl<'p> Vectors<'p> {
             program,
             demux: None,
             queue: None,
+            ends: None,
         }
     }
 
@@ -38,6 +41,17 @@ impl<'p> Vectors<'p> {
             "take" => queue::take(case, &mut self.queue),
             "early" => streams::early(case),
             _ => case.unread(),
+        }
+    }
+
+    /// Appends what a case of the ends of a channel gives, or one of those.
+    fn answer_at_ends<R: Wait>(&mut self, rt: &R, case: &mut Case<'_>, verb: &str) {
+        match verb {
+            "channel" => self.ends = ports::opened(case),
+            "send" | "receive" | "settle" | "finish" | "drop" => {
+                ports::answer(case, rt, &mut self.ends, verb);
+            }
+            _ => self.answer_alone(case, verb),
         }
     }
 
@@ -59,7 +73,7 @@ impl<'p> Vectors<'p> {
             "header" => messages::header_written(case),
             "limits" => queue::limits(case),
             "memory" => messages::in_memory(case),
-            _ => self.answer_alone(case, verb),
+            _ => self.answer_at_ends(rt, case, verb),
         }
     }
 

@@ -8,7 +8,8 @@ use Rattle.clap.specs.declared.builder.command.Command.{Command}
 use Rattle.clap.specs.declared.builder.command.Command.TheViews.{out-Command as fields_of}
 use Rattle.cli.specs.declared.rules.Argument.{Argument}
 use Rattle.cli.specs.declared.rules.Argument.TheVariants.{Also, Base, Burst, Capacity, Capture, CaptureProgress}
-use Rattle.cli.specs.declared.rules.Argument.TheVariants.{CountedHarts, Events, Explain, ExplainRow, First, Format, Full, Harts}
+use Rattle.cli.specs.declared.rules.Argument.TheVariants.{CountedHarts, Events, Explain, ExplainRow, ExplainSymbols, First}
+use Rattle.cli.specs.declared.rules.Argument.TheVariants.{Format, Full, Harts}
 use Rattle.cli.specs.declared.rules.Argument.TheVariants.{GivenBase, GivenPeriod, Hart, Messages, Mix, Mixed, MixedHarts, Seed}
 use Rattle.cli.specs.declared.rules.Argument.TheVariants.{HeadedFull, HeadedPeriod, Headless, Hex, Image, Lines}
 use Rattle.cli.specs.declared.rules.Argument.TheVariants.{ListedHarts, Logs, Long, Lossy, NumberBits, Of, Only, Packets}
@@ -29,7 +30,8 @@ with_arguments name arguments = fold with_argument (new_app name) arguments
 -- The program's subcommands, in the order in which help lists them, each with its arguments.
 abbrev pub all_apps : List App
 all_apps =
-    with_arguments (codes "check") (Base ∷ Also ∷ Explain ∷ Symbols ∷ Long ∷ Progress ∷ Image ∷ Logs ∷ []) ∷
+    with_arguments (codes "check") (Base ∷ Also ∷ Explain ∷ ExplainSymbols ∷ Long ∷ Progress ∷ Image ∷
+    Logs ∷ []) ∷
     with_arguments (codes "encode") (Base ∷ Also ∷ Period ∷ Full ∷ VersionOne ∷ Hex ∷ Mixed ∷ First ∷ Of ∷ Long ∷
     Progress ∷ Image ∷ Logs ∷ []) ∷
     with_arguments (codes "dump") (Search ∷ Only ∷ Symbols ∷ CaptureProgress ∷ Capture ∷ []) ∷

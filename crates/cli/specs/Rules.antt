@@ -88,6 +88,7 @@ argument_rule argument.CountedHarts = count_rule (codes "harts")
 argument_rule argument.Events = number_rule (codes "events") (long_parser most_long_rows)
 argument_rule argument.Explain = flag_rule (codes "explain")
 argument_rule argument.ExplainRow = flag_rule (codes "explain")
+argument_rule argument.ExplainSymbols = option_rule (codes "symbols")
 argument_rule argument.First = hart_rule (codes "first")
 argument_rule argument.Format = record (option_rule (codes "format")) { defaults = codes "text" ∷ [] }
 argument_rule argument.Full = flag_rule (codes "full")

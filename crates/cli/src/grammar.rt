@@ -12,11 +12,11 @@ use crate::help::{
 };
 use crate::rules::Argument::{
     Also, Base, Burst, Capacity, Capture, CaptureProgress, CountedHarts, Events, Explain,
-    ExplainRow, First, Format, Full, GivenBase, GivenPeriod, Hart, Harts, HeadedFull, HeadedPeriod,
-    Headless, Hex, Image, Lines, ListedHarts, Logs, Long, Lossy, Messages, Mix, Mixed, MixedHarts,
-    NumberBits, Of, Only, Packets, Period, Progress, Received, Rows, Salvaged, SalvagedHarts,
-    Schedule, Search, Seed, Sent, Skip, Summary, Symbols, Unnumbered, VersionOne, What,
-    WithoutLogs,
+    ExplainRow, ExplainSymbols, First, Format, Full, GivenBase, GivenPeriod, Hart, Harts,
+    HeadedFull, HeadedPeriod, Headless, Hex, Image, Lines, ListedHarts, Logs, Long, Lossy,
+    Messages, Mix, Mixed, MixedHarts, NumberBits, Of, Only, Packets, Period, Progress, Received,
+    Rows, Salvaged, SalvagedHarts, Schedule, Search, Seed, Sent, Skip, Summary, Symbols,
+    Unnumbered, VersionOne, What, WithoutLogs,
 };
 use crate::rules::{Argument, arg_of};
 use clap::Command;
@@ -37,7 +37,16 @@ const SUBCOMMANDS: [Subcommand; 13] = [
         name: "check",
         about: "Check whether logs are legal",
         example: CHECK_EXAMPLE,
-        arguments: &[Base, Also, Explain, Symbols, Long, Progress, Image, Logs],
+        arguments: &[
+            Base,
+            Also,
+            Explain,
+            ExplainSymbols,
+            Long,
+            Progress,
+            Image,
+            Logs,
+        ],
     },
     Subcommand {
         name: "encode",

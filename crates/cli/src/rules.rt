@@ -25,6 +25,7 @@ pub(crate) enum Argument {
     Events,
     Explain,
     ExplainRow,
+    ExplainSymbols,
     First,
     Format,
     Full,
@@ -144,7 +145,7 @@ fn read_as<'a>(alloc: Global, argument: Argument) -> Arg<'a>
         Argument::Sent => file(alloc, "SENT"),
         Argument::Skip => flag(alloc, "skip"),
         Argument::Summary | Argument::WithoutLogs => flag(alloc, "summary"),
-        Argument::Symbols => option(alloc, "symbols", "FILE"),
+        Argument::Symbols | Argument::ExplainSymbols => option(alloc, "symbols", "FILE"),
         Argument::Unnumbered => flag(alloc, "unnumbered"),
         Argument::What => file(alloc, "WHAT"),
     }
@@ -167,6 +168,8 @@ fn help_of(argument: Argument) -> &'static str {
         Argument::Events => "How many rows the log has, 1 to 4294967295; without it, 1000000",
         Argument::Explain => "Print below an illegal row what is there and what may follow",
         Argument::ExplainRow => "Print the up to three rows before the first that differs",
+        Argument::ExplainSymbols =>
+            "With --explain, file of the program's symbols, as `nm` prints them",
         Argument::First => "The hart of the first log, with --of, 0 to 1023; without it, 0",
         Argument::Format => "What is printed: text, or csv, a table",
         Argument::Full => "Report addresses in full, not as differences",

@@ -6,7 +6,7 @@ use Rattle.std.proofs.lemmas.Bool.Decides.{eqb_tells}
 use Rattle.std.proofs.lemmas.List.{length-append}
 use Rattle.std.proofs.lemmas.List.Elements.{All-cons, All-nil, filter-append}
 use Rattle.std.proofs.lemmas.Option.{same_Some, slice_get-map}
-use Rattle.std.specs.Prelude.{◌==◌, if◌then◌else◌, IfOk, Result, Ok, Err, option_map}
+use Rattle.std.specs.Prelude.{◌==◌, if◌then◌else◌, IfErr, IfOk, Result, Ok, Err, option_map}
 use Rattle.captures.proofs.Reaching.{capture_next}
 use Rattle.captures.proofs.WholeCaptures.{HasRead, read_next}
 use Rattle.captures.specs.NoMessage.{BeginsNone}
@@ -27,16 +27,18 @@ use Rattle.comparing.proofs.CountedMessages.{before_more, before_same}
 use Rattle.comparing.proofs.MessageBounds.{message_longer}
 use Rattle.comparing.specs.Counts.{before_stop}
 use Rattle.comparing.specs.Explained.{is_whole_hart}
-use Rattle.comparing.specs.Sources.{own_placed, source_message}
+use Rattle.comparing.specs.Sources.{EndsRefused, own_placed, source_message}
 use Rattle.comparing.specs.declared.explained.ExplainedHart.{ExplainedHart}
 use Rattle.comparing.specs.declared.source.SourceMessage.{SourceMessage}
+use Rattle.comparing.specs.declared.source.SourcingFault.{SourcingFault}
+use Rattle.comparing.specs.declared.source.SourcingFault.TheVariants.{Stops}
 use Rattle.comparing.specs.declared.sourcing.Followed.{Followed}
 use Rattle.comparing.specs.declared.sourcing.StopMessage.{StopMessage}
 use Rattle.comparing.specs.declared.trail.Trail.{Trail}
 use Rattle.comparing.specs.steps.Counting.{comes_before}
 use Rattle.comparing.specs.steps.Following.{IsFollowed}
-use Rattle.comparing.specs.steps.Sourcing.{AreFollowed, AreFollowedUpTo, AreNumberedFrom, IsFollowedOn, harts_of, stop_message}
-use Rattle.comparing.specs.steps.Sourcing.{stopped_after, stopped_in}
+use Rattle.comparing.specs.steps.Sourcing.{AreFollowed, AreFollowedUpTo, AreNumberedFrom, IsFollowedOn, IsRefusedAt}
+use Rattle.comparing.specs.steps.Sourcing.{IsRefusedUpTo, harts_of, stop_message, stopped_after, stopped_in}
 
 abbrev is_of : ℕ → PlacedMessage → Bool
 is_of hart one = one.message.hart == hart
@@ -197,6 +199,22 @@ module _ (what : Followed) (at : SourceMessage) (m : Message) (old : List Trail)
           own_at other before now same was (slice_get-set old place after other now there) follows own one;
     }
 
+    -- Or decoding the hart does not go on with it.
+    pub set_refused : {X : Type 0} (result : Result X SourcingFault) → is_whole_hart trail.hart ≡ false
+        → ((own : List PlacedMessage) (one : PlacedMessage) → one.message ≡ m
+        → IsFollowed (words_of what.program.now) own trail → IfErr result (λ why. why ≡ Stops
+        → EndsRefused (words_of what.program.now) (own ++ one ∷ []) trail.hart.row))
+        → IfErr result (λ why. why ≡ Stops → IsRefusedAt what m old)
+    set_refused (Ok done) not_whole refuses = tt
+    set_refused (Err why) not_whole refuses = λ stops. record {
+      place = place;
+      trail = trail;
+      hart_is = hart_is;
+      here = here;
+      not_whole = not_whole;
+      refused = λ own one is followed. refuses own one is followed stops;
+    }
+
 -- An item behind others.
 behind : {X : Type 0} (items : List X) (item : X) → slice_get (items ++ item ∷ []) (length items) ≡ Some item
 behind [] item = refl
@@ -319,6 +337,47 @@ module _ (what : Followed) (bytes left next : List ℕ) (old : List Trail) (numb
           ap length (sym (append-nil (capture (has.messages ++ m ∷ [])))) ∙ ap length (capture_next has.messages m [])
           ∙ length-append (capture has.messages) (message_bytes m ++ [])
           ∙ ap (λ n. length (capture has.messages) + n) (ap length (append-nil (message_bytes m)))
+
+module _ (what : Followed) (bytes left next : List ℕ) (old : List Trail) (number offset : ℕ)
+    (stopped : Option StopMessage) (trails : List Trail) (m : Message)
+    (has : HasFollowed what bytes left old number offset stopped trails) (is : IsMessage m)
+    (begins : left ≡ message_bytes m ++ next) where
+  -- Decoding its hart does not go on with one more.
+  pub refused_next : comes_before what.stop number ≡ true → IsRefusedAt what m trails → IsRefusedUpTo what bytes old
+  refused_next comes at =
+      let more = before_more what.stop has.messages m (subst (λ n. comes_before what.stop n ≡ true) has.counted comes) in
+      let read = read_next bytes left next has.messages m has.read is begins in
+      record {
+        messages = has.messages ++ m ∷ [];
+        rest = next;
+        ranges = read.ranges;
+        begins = read.whole;
+        early = more.1;
+        place = at.place;
+        hart = at.trail.hart;
+        here = ap (λ harts. slice_get harts at.place) (sym has.harts)
+            ∙ slice_get-map (λ (trail : Trail). trail.hart) trails at.place
+            ∙ ap (option_map (λ (trail : Trail). trail.hart)) at.here;
+        not_whole = at.not_whole;
+        refused = λ none numbered.
+            let hart_is = numbered_too what.first old trails has.harts numbered at.place at.trail at.here ∙ at.hart_is in
+            let followed =
+            subst (λ ms. AreFollowed (words_of what.program.now) what.offset ms trails) more.0 (has.followed none numbered) in
+            subst (λ own. EndsRefused (words_of what.program.now) own at.trail.hart.row)
+            (sym (own-next at.trail.hart.line.hart what.offset has.messages m (sym hart_is)))
+            (at.refused (own_placed at.trail.hart.line.hart what.offset has.messages)
+            (next_placed what.offset has.messages m) refl (followed at.place at.trail at.here at.not_whole));
+      }
+
+  -- Where that is why it is not followed, it comes before the message at which decoding stops.
+  pub refused_by : (why : SourcingFault)
+      → (comes_before what.stop number ≡ false → ◌≡◌ {A = Result (Unit {0}) SourcingFault} (Err why) (Ok tt))
+      → IsRefusedAt what m trails → IsRefusedUpTo what bytes old
+  refused_by why passed at = by (comes_before what.stop number) refl
+    where
+      by : (b : Bool) → comes_before what.stop number ≡ b → IsRefusedUpTo what bytes old
+      by true comes = refused_next comes at
+      by false comes = let both = passed comes in cc
 
 -- At no message decoding stops.
 pub stopped_none : (stop : Option (ℕ × CaptureFault)) → None ≡ stopped_in stop []

@@ -5,7 +5,7 @@ use Rattle.std.proofs.lemmas.Bool.{eq-eqb}
 use Rattle.std.proofs.lemmas.Bool.Decides.{nat_tests}
 use Rattle.std.proofs.lemmas.List.{length-append, map_push}
 use Rattle.std.proofs.lemmas.List.Elements.{All-cons, All-head, All-nil, All-push, All-tail}
-use Rattle.std.specs.Prelude.{IfOk, is_some, nat_le, option_map}
+use Rattle.std.specs.Prelude.{IfErr, IfOk, is_some, nat_le, option_map}
 use Rattle.decoder.specs.DecoderStands.{DecoderStands}
 use Rattle.decoder.specs.Describes.{Describes}
 use Rattle.decoder.specs.Settling.{waits}
@@ -25,10 +25,13 @@ use Rattle.payload.specs.declared.fault.PackFault.{PackFault}
 use Rattle.payload.specs.declared.packet.Packet.{Packet}
 use Rattle.retire.specs.declared.event.Event.{Event}
 use Rattle.rvclass.specs.Words.{Words}
-use Rattle.comparing.specs.Sources.{ComesBefore, Settles, Step, last_step, messages_in, source_message, waited}
+use Rattle.comparing.specs.Sources.{ComesBefore, EndsRefused, IsRefused, Settles, Step, last_step, messages_in}
+use Rattle.comparing.specs.Sources.{source_message, waited}
 use Rattle.comparing.specs.declared.source.RowSource.{RowSource}
 use Rattle.comparing.specs.declared.source.RowSource.TheVariants as source
 use Rattle.comparing.specs.declared.source.SourceMessage.{SourceMessage}
+use Rattle.comparing.specs.declared.source.SourcingFault.{SourcingFault}
+use Rattle.comparing.specs.declared.source.SourcingFault.TheVariants.{Memory, Stops}
 use Rattle.comparing.specs.declared.trail.Trail.{Trail}
 use Rattle.comparing.specs.steps.Following.{Found, GoesOn, IsDecodedOn, IsFollowed, last_of, trail_after, waited_by}
 
@@ -256,3 +259,26 @@ module _ (words : Words) (placed : List PlacedMessage) (one : PlacedMessage) (at
         (sym (is ∙ ap (λ waits. trail_after (record old { decoder = decoder }) at count waits closes) is_waits
         ∙ ap (trail_after (record old { decoder = decoder }) at count (read_waits read)) is_closes))
         (decoded_after followed on)
+
+-- The row was not decoded before: decoding does not go on with the message.
+module _ (words : Words) (placed : List PlacedMessage) (one : PlacedMessage) (old : Trail)
+    (none : is_some old.found ≡ false) (read : Result Packet PackFault) (read_is : read ≡ reading one.message.payload) where
+  pub refused_after : IsFollowed words placed old
+      → ((packets : List Packet) (events : List Event) → DecoderStands words packets events old.decoder
+      → IsRefused words packets read) → EndsRefused words (placed ++ one ∷ []) old.hart.row
+  refused_after (Found from is settles) refuses = absurd (true≢false (sym (ap is_some is) ∙ none))
+  refused_after (GoesOn steps events are not comes stands rows last) refuses =
+      let packets = packets_in (messages_in steps) in
+      record {
+        before = steps;
+        last = one;
+        whole = ap (λ l. l ++ one ∷ []) (sym are);
+        comes = comes;
+        refused = subst (IsRefused words packets) read_is (refuses packets events stands);
+      }
+
+-- A fault for want of memory is no other.
+pub none_stops : {X : Type 0} (P : Type 0) (result : Result X SourcingFault) → IfErr result (λ why. why ≡ Memory)
+    → IfErr result (λ why. why ≡ Stops → P)
+none_stops P (Ok done) memory = tt
+none_stops P (Err why) memory = λ stops. let both = sym memory ∙ stops in cc

@@ -14,3 +14,4 @@ pub mod SomeHarts
 pub mod SourcedHarts
 pub mod EqualHarts
 pub mod AgreeingRows
+pub mod NoneEarly

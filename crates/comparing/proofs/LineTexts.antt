@@ -1,6 +1,6 @@
 -- Lines that are written one after the other, and what they are of.
 use Rattle.std.proofs.Common.{◌≡◌, ◌∙◌, ℕ, ◌+◌, ◌<◌, List, [], ◌∷◌, ◌++◌, Bool, true, false, true≢false, Option, None, Some, ap, append-nil, get_or, length}
-use Rattle.std.proofs.Common.{arith, refl, subst, sym, take}
+use Rattle.std.proofs.Common.{arith, refl, subst, suc, sym, take}
 use Rattle.std.proofs.KnownBytes.{Appends-trans}
 use Rattle.std.proofs.lemmas.Grind.{flat_map-append}
 use Rattle.std.proofs.lemmas.List.{take_more}
@@ -136,3 +136,10 @@ pub harts_numbered : (hart : ℕ) (gots : List Got) (logs : List ProgramLog)
 harts_numbered hart [] logs = tt
 harts_numbered hart (got ∷ gots) [] = tt
 harts_numbered hart (got ∷ gots) (log ∷ logs) = (refl, harts_numbered (hart + 1) gots logs)
+
+-- Something is said of each hart.
+pub harts_many : (hart : ℕ) (gots : List Got) (logs : List ProgramLog) → length logs ≡ length gots
+    → length (explained_harts hart gots logs) ≡ length gots
+harts_many hart [] logs same = refl
+harts_many hart (got ∷ gots) [] same = absurd (omega (arith, same))
+harts_many hart (got ∷ gots) (log ∷ logs) same = ap (λ n. suc n) (harts_many (hart + 1) gots logs (omega (arith, same)))

@@ -5,25 +5,27 @@ use Rattle.std.proofs.lemmas.Option.{same_Some}
 use Rattle.std.specs.List.{AllZip}
 use Rattle.std.specs.Prelude.{◌==◌, if◌then◌else◌, IfOk, Result, Ok, Err, option_map}
 use Rattle.std.specs.declared.vec.Vec.{Vec}
-use Rattle.captures.specs.Whole.{IsFront}
+use Rattle.captures.specs.Whole.{BeginsWith, IsFront}
 use Rattle.captures.specs.declared.outcome.CaptureFault.{CaptureFault}
 use Rattle.listing.specs.Placed.{PlacedMessage, placed}
 use Rattle.message.specs.declared.fault.MessageFault.{MessageFault}
 use Rattle.message.specs.declared.header.Header.{Header}
 use Rattle.message.specs.declared.message.Message.{Message}
+use Rattle.rvclass.specs.Fetch.{words_of}
 use Rattle.rvclass.specs.Words.{Words}
 use Rattle.comparing.specs.Counts.{before_stop}
 use Rattle.comparing.specs.Explained.{is_whole_hart}
-use Rattle.comparing.specs.Sourced.{AreNumbered, AreSourced, IsSourced}
-use Rattle.comparing.specs.Sources.{IsAmong, Settled, Step, Unsettled, first_offset, last_step, own_placed, own_stop, source_behind}
+use Rattle.comparing.specs.Sourced.{AreNumbered, AreSourced, IsSourced, StopsEarly}
+use Rattle.comparing.specs.Sources.{EndsRefused, IsAmong, Settled, Step, Unsettled, first_offset, last_step, own_placed, own_stop, source_behind}
 use Rattle.comparing.specs.Sources.{source_message, stop_of}
 use Rattle.comparing.specs.declared.explained.ExplainedHart.{ExplainedHart}
 use Rattle.comparing.specs.declared.source.SourceMessage.{SourceMessage}
+use Rattle.comparing.specs.declared.sourcing.Followed.{Followed}
 use Rattle.comparing.specs.declared.sourcing.SourcedHart.{SourcedHart}
 use Rattle.comparing.specs.declared.sourcing.StopMessage.{StopMessage}
 use Rattle.comparing.specs.declared.trail.Trail.{Trail}
 use Rattle.comparing.specs.steps.Following.{Found, GoesOn, IsFollowed, behind_last, found_or, last_of, source_by}
-use Rattle.comparing.specs.steps.Sourcing.{AreFollowed, AreNumberedFrom, harts_of, own_stop_by, sourced_by, stop_message}
+use Rattle.comparing.specs.steps.Sourcing.{AreFollowed, AreNumberedFrom, IsRefusedUpTo, harts_of, own_stop_by, sourced_by, stop_message}
 use Rattle.comparing.specs.steps.Sourcing.{stopped_in}
 
 -- The message at which decoding stops, and why, as it is held.
@@ -123,3 +125,24 @@ numbered_from first (trail ∷ trails) numbered = at (numbered_from (first + 1) 
     at rest zero other there =
         ap (λ (trail : Trail). trail.hart.line.hart) (sym (same_Some trail other there)) ∙ numbered.0 ∙ omega arith
     at rest (suc place) other there = rest place other there ∙ omega arith
+
+-- Where decoding does not go on behind the header, or without one, it stops early.
+pub stops_early : (what : Followed) (bytes left : List ℕ) (header : Option Header) (trails : List Trail)
+    (harts : List ExplainedHart) → BeginsWith header bytes left → harts_of trails ≡ harts
+    → what.offset ≡ first_offset header → AreFollowed (words_of what.program.now) what.offset [] trails
+    → AreNumberedFrom what.first trails → IsRefusedUpTo what left trails
+    → StopsEarly (words_of what.program.now) bytes what.stop harts
+stops_early what bytes left header trails harts begins are offset none numbered up = record {
+  header = header;
+  messages = up.messages;
+  rest = up.rest;
+  ranges = up.ranges;
+  begins = subst (BeginsWith header bytes) up.begins begins;
+  early = up.early;
+  place = up.place;
+  hart = up.hart;
+  here = ap (λ harts. slice_get harts up.place) (sym are) ∙ up.here;
+  not_whole = up.not_whole;
+  refused = subst (λ offset. EndsRefused (words_of what.program.now) (own_placed up.hart.line.hart offset up.messages)
+      up.hart.row) offset (up.refused none numbered);
+}

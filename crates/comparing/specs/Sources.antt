@@ -1,14 +1,20 @@
 -- Which message of a capture a row of a hart comes from.
 use Rattle.std.specs.Prelude.{ℕ, ◌≡◌, ◌==◌, ◌≤◌, ◌<◌, ◌++◌, All, if◌then◌else◌, List, [], ◌∷◌, Option, Some, None, filter, length, map}
-use Rattle.std.specs.Prelude.{slice_get}
+use Rattle.std.specs.Prelude.{Ok, Result, slice_get}
 use Rattle.captures.specs.Whole.{IsFront}
 use Rattle.captures.specs.declared.outcome.CaptureFault.{CaptureFault}
+use Rattle.decoder.specs.Describes.{Describes}
 use Rattle.listing.specs.Effect.{Effect, HaveEffects}
 use Rattle.listing.specs.Placed.{PlacedMessage, placed}
 use Rattle.message.specs.Header.{header_bytes}
 use Rattle.message.specs.declared.fault.MessageFault.{MessageFault}
 use Rattle.message.specs.declared.header.Header.{Header}
+use Rattle.message.specs.OfHart.{packets_in}
 use Rattle.message.specs.declared.message.Message.{Message}
+use Rattle.payload.specs.Reading.{reading}
+use Rattle.payload.specs.declared.fault.PackFault.{PackFault}
+use Rattle.payload.specs.declared.packet.Packet.{Packet}
+use Rattle.retire.specs.declared.event.Event.{Event}
 use Rattle.rvclass.specs.Words.{Words}
 use Rattle.comparing.specs.Counts.{before_stop}
 use Rattle.comparing.specs.declared.source.RowSource.{RowSource}
@@ -52,6 +58,20 @@ pub record Settles (words : Words) (own : List PlacedMessage) (row : ℕ) (from 
   pub fewer : All (λ (step : Step). step.1.rows < row) before
   pub reached : row ≤ step.1.rows
   pub is : from ≡ source.Settles (source_message step.0) step.1.rows (length step.1.added) (waited (last_step None before))
+
+-- Decoding does not go on after these packets with what a payload unpacks to: there is no packet, or no log is described
+-- by them and that one.
+abbrev pub IsRefused : Words → List Packet → Result Packet PackFault → Type 0
+IsRefused words packets read =
+    (packet : Packet) → read ≡ Ok packet → (log : List Event) → ¬ Describes words (packets ++ packet ∷ []) log
+
+-- Decoding does not go on with the last of these messages of a hart. Fewer events than so many come from those before it.
+pub record EndsRefused (words : Words) (own : List PlacedMessage) (row : ℕ) : Type 0 where
+  pub before : List Step
+  pub last : PlacedMessage
+  pub whole : own ≡ map (λ (step : Step). step.0) before ++ last ∷ []
+  pub comes : ComesBefore words row before
+  pub refused : IsRefused words (packets_in (messages_in before)) (reading last.message.payload)
 
 -- What is behind the last message of a hart: its end, the message at which decoding stops, or nothing more.
 abbrev pub source_behind : Option Step → Option (PlacedMessage × CaptureFault) → RowSource

@@ -191,16 +191,11 @@ fn write_both<S: Allocator, W: Write>(
         (W.contents sink.old) (W.contents sink.new) }
     ensures fault { IfErr result (λ fault. fault ≡ WriteFault.Write) }
 {
-    let Some(event) = event else {
-        return Ok(());
-    };
-    let start = RowStart {
-        hart: hart.line.hart,
-        row: hart.row.saturating_sub(many),
-        kind: RowKind::Both,
-        event: Some(event),
-    };
-    write_row(how, start, sink)
+    let row = hart.row.saturating_sub(many);
+    match event {
+        Some(_) => write_row(how, hart.line.hart, row, RowKind::Both, event, sink),
+        None => Ok(()),
+    }
 }
 
 /// Writes the lines of the row of the log and of the decoded one.
@@ -215,36 +210,41 @@ fn write_rows<S: Allocator, W: Write>(
         (W.contents sink.old) (W.contents sink.new) }
     ensures fault { IfErr result (λ fault. fault ≡ WriteFault.Write) }
 {
-    let log = RowStart {
-        hart: hart.line.hart,
-        row: hart.row,
-        kind: RowKind::Log,
-        event: hart.near.log,
-    };
-    let decoded = RowStart {
-        hart: hart.line.hart,
-        row: hart.row,
-        kind: RowKind::Decoded,
-        event: hart.near.decoded,
-    };
-    write_row(how, log, sink)?;
-    write_row(how, decoded, sink)
+    let number = hart.line.hart;
+    write_row(how, number, hart.row, RowKind::Log, hart.near.log, sink)?;
+    write_row(
+        how,
+        number,
+        hart.row,
+        RowKind::Decoded,
+        hart.near.decoded,
+        sink,
+    )
 }
 
-/// Writes the line of a row.
+/// Writes the line of a row of a hart.
 fn write_row<S: Allocator, W: Write>(
     how: &Explaining<'_, S>,
-    start: RowStart,
+    hart: usize,
+    row: usize,
+    kind: RowKind,
+    event: Option<Event>,
     sink: &mut W,
 ) -> Result<(), WriteFault>
     ensures text { OnOk result (Appends (W.contents sink.old) (W.contents sink.new)
-        (row_line (names_in how.now) start.hart start.row start.kind start.event)) }
-    ensures begun { AppendsBeginning (row_line (names_in how.now) start.hart start.row start.kind start.event)
+        (row_line (names_in how.now) hart row kind event)) }
+    ensures begun { AppendsBeginning (row_line (names_in how.now) hart row kind event)
         (W.contents sink.old) (W.contents sink.new) }
     ensures fault { IfErr result (λ fault. fault ≡ WriteFault.Write) }
 {
+    let start = RowStart {
+        hart,
+        row,
+        kind,
+        event,
+    };
     write_text(sink, start)?;
-    write_name(how, start.event, sink)?;
+    write_name(how, event, sink)?;
     write_bytes(sink, b"\n")?;
     Ok(())
 }

@@ -1,6 +1,7 @@
 //! Facts that follow from the definition of a comparison.
 
 ghost use Rattle.comparing.specs.Agreeing.{ListsAgreeBefore};
+ghost use Rattle.comparing.specs.Sourced.{NoneStopsEarly};
 ghost use Rattle.comparing.specs.Whole.{AllHartsAreGot, WholeIsDecoded, WholeIsEqual, WholeOfHartsIsDecoded};
 ghost use Rattle.comparing.specs.Whole.{WholeOfHartsIsEqual};
 
@@ -37,4 +38,10 @@ pub fn all_harts_are_compared()
 /// them. Where both have that row, the two are not the same.
 pub fn lists_agree_before_the_row()
     ensures { ListsAgreeBefore }
+{}
+
+/// Where the bytes of a capture decode to what is compared with the logs of some harts, and decoding these stops at
+/// `stop`, none of them stops before it.
+pub fn decoding_stops_where_it_is_said()
+    ensures { NoneStopsEarly }
 {}

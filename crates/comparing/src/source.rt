@@ -1,12 +1,31 @@
 //! The message of a capture that a row of a hart comes from.
 
-ghost use Rattle.std.specs.Prelude.{Some};
+ghost use Rattle.std.specs.Prelude.{◌≡◌, Some};
 ghost use Rattle.comparing.specs.SourceTexts.{message_at, settled_text, source_text, stop_text, stopped_text, waited_text};
+ghost use Rattle.comparing.specs.declared.source.SourcingFault.TheVariants.{Memory};
 
 use captures::{CaptureFault, Offset};
 use message::MessageFault;
+use std::alloc::AllocError;
 use std::fmt;
 use std::fmt::Display;
+
+/// Why it is not found where rows come from.
+#[derive(Clone, Copy)]
+pub enum SourcingFault {
+    /// An allocation failed, or a hart has more events than a list can hold.
+    Memory,
+    /// Decoding a hart stops before the message at which it is said to.
+    Stops,
+}
+
+impl From<AllocError> for SourcingFault {
+    ghost from_gives = { λ _ fault. fault ≡ Memory };
+
+    fn from(_error: AllocError) -> SourcingFault {
+        SourcingFault::Memory
+    }
+}
 
 /// Which message of a capture it is.
 #[derive(Clone, Copy)]

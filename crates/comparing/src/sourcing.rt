@@ -1,23 +1,24 @@
 //! Finding the message that a row of each hart comes from.
 
-ghost use Rattle.std.specs.Prelude.{ℕ, ◌≡◌, ◌+◌, ◌<◌, ◌^◌, [], IfOk, false, length, map, true};
-ghost use Rattle.comparing.specs.Sourced.{AreNumbered, AreSourced};
+ghost use Rattle.std.specs.Prelude.{ℕ, ◌≡◌, ◌+◌, ◌<◌, ◌^◌, [], IfErr, IfOk, Ok, false, length, map, true};
+ghost use Rattle.comparing.specs.Sourced.{AreNumbered, AreSourced, StopsEarly};
 ghost use Rattle.comparing.specs.Sources.{first_offset};
+ghost use Rattle.comparing.specs.declared.source.SourcingFault.TheVariants.{Memory, Stops};
 ghost use Rattle.comparing.specs.steps.Counting.{comes_before};
-ghost use Rattle.comparing.specs.steps.Sourcing.{AreFollowed, AreFollowedUpTo, IsFollowedOn, harts_of, own_stop_by};
-ghost use Rattle.comparing.specs.steps.Sourcing.{sourced_by, stopped_after};
+ghost use Rattle.comparing.specs.steps.Sourcing.{AreFollowed, AreFollowedUpTo, IsFollowedOn, IsRefusedAt, IsRefusedUpTo};
+ghost use Rattle.comparing.specs.steps.Sourcing.{harts_of, own_stop_by, sourced_by, stopped_after};
 ghost use Rattle.rvclass.specs.Fetch.{words_of};
 ghost use Rattle.rvclass.specs.Words.{Words};
 
 use crate::counting::comes_before;
 use crate::explained::ExplainedHart;
-use crate::source::{RowSource, SourceMessage};
+use crate::source::{RowSource, SourceMessage, SourcingFault};
 use crate::trail::Trail;
 use captures::CaptureFault;
 use message::{HEADER_SIZE, Header, Message, Messages};
 use retire::Event;
 use rvclass::ProgramOver;
-use std::alloc::{AllocError, Allocator};
+use std::alloc::Allocator;
 
 /// What a comparison says of a hart, and where the row comes from in which its log and what is decoded first differ.
 #[derive(Clone, Copy)]
@@ -53,7 +54,10 @@ pub(crate) struct StopMessage {
 /// other one the number after the one before it. `stop` is where decoding this capture stops, and why.
 ///
 /// The capture is read once, and messages of a hart are decoded up to that row. Nothing is decoded of a hart whose log
-/// came back whole. The error says that an allocation failed, or that decoding stops before `stop`.
+/// came back whole. The error is [`SourcingFault::Stops`] only where decoding one of the others stops before `stop`. It
+/// never is where the capture is decoded up to there: [`decoding_stops_where_it_is_said`].
+///
+/// [`decoding_stops_where_it_is_said`]: crate::decoding_stops_where_it_is_said
 pub fn sources_of<A: Allocator + Copy>(
     alloc: A,
     program: &ProgramOver,
@@ -61,9 +65,12 @@ pub fn sources_of<A: Allocator + Copy>(
     stop: Option<(u64, CaptureFault)>,
     first: usize,
     harts: &[ExplainedHart],
-) -> Result<Vec<SourcedHart, A>, AllocError>
+) -> Result<Vec<SourcedHart, A>, SourcingFault>
     requires numbered { AreNumbered first harts.now }
-    ensures { IfOk result (λ sourced. AreSourced (words_of program.now) bytes.now stop harts.now sourced.items) }
+    ensures sourced { IfOk result
+        (λ sourced. AreSourced (words_of program.now) bytes.now stop harts.now sourced.items) }
+    ensures stops { IfErr result
+        (λ why. why ≡ Stops → StopsEarly (words_of program.now) bytes.now stop harts.now) }
 {
     let mut trails = trails_of(alloc, harts)?;
     let mut left = Messages::new(bytes);
@@ -93,9 +100,13 @@ fn first_offset(header: Option<Header>) -> u64
 }
 
 /// The trails of harts of which no message came.
-fn trails_of<A: Allocator>(alloc: A, harts: &[ExplainedHart]) -> Result<Vec<Trail, A>, AllocError>
+fn trails_of<A: Allocator>(
+    alloc: A,
+    harts: &[ExplainedHart],
+) -> Result<Vec<Trail, A>, SourcingFault>
     ensures harts { IfOk result (λ trails. harts_of trails.items ≡ harts.now) }
     ensures none { IfOk result (λ trails. (words : Words) (offset : ℕ) → AreFollowed words offset [] trails.items) }
+    ensures fault { IfErr result (λ why. why ≡ Memory) }
 {
     let mut trails = Vec::with_capacity(alloc, harts.len())?;
     for hart in harts {
@@ -111,9 +122,11 @@ fn follow_messages<A: Allocator>(
     what: Followed<'_>,
     mut left: Messages<'_>,
     piece: &mut Vec<Event, A>,
-) -> Result<Option<StopMessage>, AllocError>
+) -> Result<Option<StopMessage>, SourcingFault>
     requires room { what.offset + length left < 2 ^ 64 }
-    ensures { IfOk result (AreFollowedUpTo what.entry left.entry trails.old.items trails.new.items) }
+    ensures followed { IfOk result (AreFollowedUpTo what.entry left.entry trails.old.items trails.new.items) }
+    ensures stops { IfErr result
+        (λ why. why ≡ Stops → IsRefusedUpTo what.entry left.entry trails.old.items) }
 {
     let mut number = 0;
     let mut offset = what.offset;
@@ -158,10 +171,12 @@ fn follow_next<A: Allocator>(
     at: SourceMessage,
     message: &Message,
     piece: &mut Vec<Event, A>,
-) -> Result<(), AllocError>
+) -> Result<(), SourcingFault>
     ensures before { comes_before what.entry.stop at.place ≡ true
         → IfOk result (λ done. IsFollowedOn what.entry at message.now trails.old.items trails.new.items) }
     ensures kept { comes_before what.entry.stop at.place ≡ false → trails.new.items ≡ trails.old.items }
+    ensures passed { comes_before what.entry.stop at.place ≡ false → result ≡ Ok tt }
+    ensures stops { IfErr result (λ why. why ≡ Stops → IsRefusedAt what.entry message.now trails.old.items) }
 {
     if !comes_before(what.stop, at.place) {
         return Ok(());
@@ -176,8 +191,10 @@ fn follow_message<A: Allocator>(
     at: SourceMessage,
     message: &Message,
     piece: &mut Vec<Event, A>,
-) -> Result<(), AllocError>
-    ensures { IfOk result (λ done. IsFollowedOn what.entry at message.now trails.old.items trails.new.items) }
+) -> Result<(), SourcingFault>
+    ensures followed { IfOk result
+        (λ done. IsFollowedOn what.entry at message.now trails.old.items trails.new.items) }
+    ensures stops { IfErr result (λ why. why ≡ Stops → IsRefusedAt what.entry message.now trails.old.items) }
 {
     let hart = usize::from(message.hart);
     if hart < what.first || hart - what.first >= trails.len() {
@@ -195,8 +212,9 @@ fn sourced_of<A: Allocator>(
     alloc: A,
     trails: &[Trail],
     stopped: Option<StopMessage>,
-) -> Result<Vec<SourcedHart, A>, AllocError>
-    ensures { IfOk result (λ sourced. sourced.items ≡ map (sourced_by stopped) trails.now) }
+) -> Result<Vec<SourcedHart, A>, SourcingFault>
+    ensures sourced { IfOk result (λ sourced. sourced.items ≡ map (sourced_by stopped) trails.now) }
+    ensures fault { IfErr result (λ why. why ≡ Memory) }
 {
     let mut sourced = Vec::with_capacity(alloc, trails.len())?;
     for trail in trails {

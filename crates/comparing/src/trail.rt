@@ -1,7 +1,8 @@
 //! How far the messages of a hart are followed to a row of it.
 
-ghost use Rattle.std.specs.Prelude.{◌≡◌, ◌+◌, ◌++◌, ◌∷◌, [], All, IfOk, IfSome, List};
-ghost use Rattle.comparing.specs.Sources.{source_message};
+ghost use Rattle.std.specs.Prelude.{◌≡◌, ◌+◌, ◌++◌, ◌∷◌, [], All, IfErr, IfOk, IfSome, List, Ok};
+ghost use Rattle.comparing.specs.Sources.{EndsRefused, IsRefused, source_message};
+ghost use Rattle.comparing.specs.declared.source.SourcingFault.TheVariants.{Memory, Stops};
 ghost use Rattle.comparing.specs.steps.Following.{IsDecodedOn, IsFollowed, source_by, trail_after, waited_by};
 ghost use Rattle.decoder.specs.DecoderStands.{DecoderStands};
 ghost use Rattle.listing.specs.Placed.{PlacedMessage};
@@ -11,7 +12,7 @@ ghost use Rattle.rvclass.specs.Fetch.{words_of};
 ghost use Rattle.rvclass.specs.Words.{Words};
 
 use crate::explained::ExplainedHart;
-use crate::source::{RowSource, SourceMessage};
+use crate::source::{RowSource, SourceMessage, SourcingFault};
 use captures::CaptureFault;
 use decoder::{Decoder, Paths};
 use listing::{read_closes, read_waits};
@@ -19,7 +20,7 @@ use message::Message;
 use payload::{PackFault, Packet, unpack};
 use retire::Event;
 use rvclass::ProgramOver;
-use std::alloc::{AllocError, Allocator};
+use std::alloc::Allocator;
 
 /// The last message of a hart so far, and what its packet says of what follows it.
 #[derive(Clone, Copy)]
@@ -57,19 +58,22 @@ impl Trail {
     }
 
     /// Follows the next message of the hart, which is at this place. The scratch list `piece` keeps its capacity. The
-    /// error says that decoding does not go on with the message.
+    /// error says that decoding does not go on with the message, or that it adds too many events to count.
     pub(crate) fn follow<A: Allocator>(
         &mut self,
         program: &ProgramOver,
         at: SourceMessage,
         message: &Message,
         piece: &mut Vec<Event, A>,
-    ) -> Result<(), AllocError>
+    ) -> Result<(), SourcingFault>
         ensures hart { self.new.hart ≡ self.old.hart }
         ensures followed { (own : List PlacedMessage) (one : PlacedMessage) → one.message ≡ message.now
             → source_message one ≡ at → All (λ other. other.message.hart ≡ one.message.hart) own
             → IsFollowed (words_of program.now) own self.old
             → IfOk result (λ done. IsFollowed (words_of program.now) (own ++ one ∷ []) self.new) }
+        ensures stops { (own : List PlacedMessage) (one : PlacedMessage) → one.message ≡ message.now
+            → IsFollowed (words_of program.now) own self.old → IfErr result (λ why. why ≡ Stops
+            → EndsRefused (words_of program.now) (own ++ one ∷ []) self.old.hart.row) }
     {
         if self.found.is_some() {
             return Ok(());
@@ -88,12 +92,13 @@ impl Trail {
         added: usize,
         waits: bool,
         closes: bool,
-    ) -> Result<(), AllocError>
+    ) -> Result<(), SourcingFault>
         ensures hart { self.new.hart ≡ self.old.hart }
         ensures after { IfOk result (λ done. self.new ≡ trail_after self.old at added waits closes) }
+        ensures fault { IfErr result (λ why. why ≡ Memory) }
     {
         let Some(rows) = self.rows.checked_add(added) else {
-            return Err(AllocError);
+            return Err(SourcingFault::Memory);
         };
         if rows >= self.hart.row {
             self.found = Some(RowSource::Settles {
@@ -159,21 +164,25 @@ fn decode<A: Allocator>(
     program: &ProgramOver,
     read: &Result<Packet, PackFault>,
     piece: &mut Vec<Event, A>,
-) -> Result<usize, AllocError>
-    ensures { (packets : List AnyPacket) (events : List AnyEvent)
+) -> Result<usize, SourcingFault>
+    ensures decoded { (packets : List AnyPacket) (events : List AnyEvent)
         → DecoderStands (words_of program.now) packets events decoder.old
         → IfOk result (IsDecodedOn (words_of program.now) packets events read.now decoder.new) }
+    ensures stops { (packets : List AnyPacket) (events : List AnyEvent)
+        → DecoderStands (words_of program.now) packets events decoder.old
+        → IfErr result (λ why. why ≡ Stops → IsRefused (words_of program.now) packets read.now) }
 {
     let Ok(packet) = read else {
-        return Err(AllocError);
+        return Err(SourcingFault::Stops);
     };
     piece.clear();
-    let Ok(left) = decoder.feed_in_pieces(Paths::of(program), packet, piece) else {
-        return Err(AllocError);
+    let left = match decoder.feed_in_pieces(Paths::of(program), packet, piece) {
+        Ok(left) => left,
+        Err(_) => return Err(SourcingFault::Stops),
     };
     match sum(piece.len(), left.len()) {
         Some(count) => Ok(count),
-        None => Err(AllocError),
+        None => Err(SourcingFault::Memory),
     }
 }
 

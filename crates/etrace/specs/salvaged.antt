@@ -13,6 +13,7 @@ pub use Rattle.salvaging.specs.Late
 pub use Rattle.salvaging.specs.Tallies as SalvagedTallies
 pub use Rattle.salvaging.specs.Shares
 pub use Rattle.salvaging.specs.Far
+pub use Rattle.salvaging.specs.FarGaps
 pub use Rattle.salvaging.specs.Treatments
 pub use Rattle.salvaging.specs.TreatedParts
 pub use Rattle.salvaging.specs.TreatedCounts
@@ -32,6 +33,8 @@ pub use Rattle.salvage_reports.specs.Offsets as SalvagedOffsets
 pub use Rattle.salvage_reports.specs.SalvagedItems
 pub use Rattle.salvage_reports.specs.StretchEnds
 pub use Rattle.salvage_reports.specs.Totals
+pub use Rattle.salvage_reports.specs.TotalsAddUp
+pub use Rattle.salvage_reports.specs.ShownParts
 pub use Rattle.salvage_reports.specs.SalvagedReadBack
 pub use Rattle.salvage_reports.specs.Fields as TreatedFields
 pub use Rattle.salvage_reports.specs.TreatedRows as TreatedRows

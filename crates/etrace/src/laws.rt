@@ -11,8 +11,8 @@ pub use captures::{
     low_numbers_are_recovered,
 };
 pub use comparing::{
-    all_harts_are_compared, lists_agree_before_the_row, whole_is_decoded, whole_is_these_logs,
-    whole_of_harts_is_decoded, whole_of_harts_is_these_logs,
+    all_harts_are_compared, decoding_stops_where_it_is_said, lists_agree_before_the_row,
+    whole_is_decoded, whole_is_these_logs, whole_of_harts_is_decoded, whole_of_harts_is_these_logs,
 };
 pub use decoder::{
     closed_where_last_closes, first_packets_describe_a_beginning,
@@ -44,11 +44,12 @@ pub use rvclass::{
 pub use salvage_reports::{
     accepted_messages_are_taken, all_harts_are_treated, messages_of_logs_are_taken,
     salvaged_rows_are_read_back, taken_messages_have_their_effect,
-    taken_messages_have_their_fields, treated_rows_are_read_back,
+    taken_messages_have_their_fields, totals_add_up, treated_rows_are_read_back,
     undamaged_captures_are_listed_alike,
 };
 pub use salvaging::{
-    far_numbers_are_known, harts_are_salvaged_in_one_way, harts_end_at_their_lowest_number,
-    harts_end_where_no_stretch_comes_after, logs_are_salvaged, messages_are_counted_once,
-    parts_are_what_is_done, treatments_are_counted, what_is_collected_is_salvaged,
+    far_numbers_are_known, far_numbers_are_reported, harts_are_salvaged_in_one_way,
+    harts_end_at_their_lowest_number, harts_end_where_no_stretch_comes_after, logs_are_salvaged,
+    messages_are_counted_once, parts_are_what_is_done, treatments_are_counted,
+    what_is_collected_is_salvaged,
 };

@@ -10,6 +10,6 @@ pub use salvage_reports::{
     in_rows, items_of, write_found, write_messages, write_salvaged, write_treated,
 };
 pub use salvaging::{
-    Added, Part, Reason, Salvaged, SalvagedHart, Treated, Treatment, far_numbers, salvage,
-    salvage_watched, treat_watched,
+    Added, FarNumber, FarTreatment, Part, Reason, Salvaged, SalvagedHart, Treated, Treatment,
+    far_numbers, salvage, salvage_watched, treat_watched,
 };

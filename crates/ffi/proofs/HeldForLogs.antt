@@ -1,18 +1,17 @@
 -- What a capture decodes to is compared with the legal logs of texts.
 use Rattle.std.proofs.Common.{◌≡◌, ◌≢◌, ◌∙◌, ◌+◌, ℕ, Bool, List, [], ◌∷◌, Option, Ok, Err, Vec, Global, ap, arith}
 use Rattle.std.proofs.Common.{inr, length, refl, sym, subst}
-use Rattle.std.specs.Prelude.{is_none}
 use Rattle.bench.specs.Got.{Got}
 use Rattle.captures.specs.Decoded.{IsDecoded}
 use Rattle.captures.specs.declared.outcome.CaptureFault.{CaptureFault}
 use Rattle.comparing.proofs.DecodedHarts.{flags_many}
 use Rattle.comparing.proofs.HeldHarts.{held}
-use Rattle.comparing.proofs.LineTexts.{lines_whole, lines_written}
+use Rattle.comparing.proofs.LineTexts.{sourced_whole}
 use Rattle.comparing.specs.Compared.{gots_by, is_compared_whole}
 use Rattle.comparing.specs.Counts.{AreCounted}
-use Rattle.comparing.specs.Lines.{are_whole_lines, lines_text}
+use Rattle.comparing.specs.Sourced.{AreSourced}
+use Rattle.comparing.specs.declared.explained.ExplainedHart.{ExplainedHart}
 use Rattle.comparing.specs.declared.hart_count.HartCount.{HartCount}
-use Rattle.bench.specs.declared.hart_line.ComparedHart.{ComparedHart}
 use Rattle.comparing.specs.steps.Held.{count_in}
 use Rattle.message.specs.Range.{every_hart}
 use Rattle.receiver.specs.Received.{events_in}
@@ -29,6 +28,7 @@ use Rattle.ffi.specs.declared.status.TheConstants.{MEMORY}
 use Rattle.ffi.specs.declared.texts.TextFault.TheVariants as text
 use Rattle.ffi.specs.declared.texts.Written.{Written}
 use Rattle.ffi.specs.steps.Comparing.{AreCompared, Writes}
+use Rattle.ffi.specs.steps.OfTexts.{AreTextsOf}
 use Rattle.ffi.proofs.HartsListed.{lists_many}
 
 -- The flags are those of what is held.
@@ -76,20 +76,24 @@ log_refused image harts capture bytes ends program place Ends made many refused 
 -- The report that is written is that of the comparison.
 pub comparison_found : (image : Judged) (harts : ℕ) (capture bytes ends : List ℕ) (program : Image) (gots : List Got)
     (stop : Option (ℕ × CaptureFault)) → HoldsFor image harts capture program gots stop → (closed : List Bool)
-    → closed_in gots ≡ closed → (lines : List ComparedHart) → AreCompared program bytes ends gots lines
-    → (found : Written) → Writes lines closed stop found
+    → closed_in gots ≡ closed → (said : List ExplainedHart) → AreTextsOf program bytes ends (AreCompared gots said)
+    → (found : Written) → Writes (words_of program) capture said closed stop found
     → HasComparison image harts capture bytes ends found.text.items found.end
-comparison_found image harts capture bytes ends program gots stop held closed flags lines are found writes = record {
-  program = program;
-  gots = gots;
-  stop = stop;
-  held = held;
-  logs = are.logs;
-  many = are.many;
-  are = are.are;
-  written = writes.written ∙ ap (lines_text (is_none stop)) are.each ∙ lines_written stop gots are.logs are.many;
-  ended = writes.ended
-      ∙ ap (compare_end closed stop)
-      (ap (are_whole_lines (is_none stop)) are.each ∙ lines_whole stop gots are.logs are.many)
-      ∙ ap (λ c. compare_end c stop (is_compared_whole stop gots are.logs)) (sym flags);
-}
+comparison_found image harts capture bytes ends program gots stop held closed flags said are found writes =
+    let from = subst (λ h. AreSourced (words_of program) capture stop h writes.sourced) are.holds.each writes.from in
+    record {
+      program = program;
+      gots = gots;
+      stop = stop;
+      held = held;
+      logs = are.logs;
+      many = are.holds.many;
+      are = are.are;
+      sourced = writes.sourced;
+      from = from;
+      written = writes.written;
+      ended = writes.ended
+          ∙ ap (compare_end closed stop)
+          (sourced_whole (words_of program) capture 0 stop gots are.logs writes.sourced are.holds.many from)
+          ∙ ap (λ c. compare_end c stop (is_compared_whole stop gots are.logs)) (sym flags);
+    }

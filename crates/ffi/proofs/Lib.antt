@@ -1,3 +1,4 @@
+mod AlignedSpans
 mod BlocksPushed
 mod ComparedInTurn
 mod DecodersBack
@@ -7,16 +8,16 @@ mod EventsCopied
 mod EventsPassed
 mod EventsRead
 mod FedInTurn
-mod FrontStarts
+mod HartsInTurn
 mod HartsListed
 mod HartsWritten
 mod HeaderMade
 mod HeadersKnown
 mod HeldForLogs
 mod LinesWritten
+mod LogsAdded
 mod LowBits
 mod PacketsBack
-mod MadeOfCopies
 mod MeasuredInTurn
 mod NoneSet
 mod Offsets
@@ -27,6 +28,5 @@ mod StatesBack
 mod StatesRead
 mod StepsTaken
 mod TextsRead
-mod Unmatched
 mod WorkedNumbers
 mod WrittenInTurn

@@ -31,9 +31,6 @@ use Rattle.ffi.specs.contracts.path_numbers.LostRun as LostRun
 use Rattle.ffi.specs.contracts.path_numbers.ByteRun as ByteRun
 use Rattle.ffi.specs.contracts.path_numbers.SentPlace as SentPlace
 use Rattle.ffi.specs.contracts.path_numbers.PathEnd as PathEnd
-use Rattle.ffi.specs.contracts.aligned_numbers.AlignedRow as AlignedRow
-use Rattle.ffi.specs.contracts.aligned_numbers.Single as Single
-use Rattle.ffi.specs.contracts.aligned_numbers.AlignedEnd as AlignedEnd
 
 -- A field: how many bytes come before it, its type, and what it holds.
 data Placed : Type 2 where
@@ -111,9 +108,9 @@ tally_lies : Lies HartTally.the_row 56 (λ d. at 0 u64 d.sent ∷ at 8 u64 d.cam
     at 24 u64 d.repeated ∷ at 32 u64 d.late ∷ at 40 u64 d.changed ∷ at 48 u32 d.whole ∷ [])
 tally_lies = (refl, λ d b o κ. refl)
 
-hart_row_lies : Lies HartRowNumbers.the_row 104 (λ d. at 0 HartTally.the_row d.tally ∷ at 56 u64 d.strange ∷
-    at 64 u64 d.runs ∷ at 72 u64 d.longest ∷ at 80 u64 d.latest ∷ at 88 u64 d.exchanged ∷
-    at 96 u64 d.exchanged_hart ∷ [])
+hart_row_lies : Lies HartRowNumbers.the_row 112 (λ d. at 0 HartTally.the_row d.tally ∷ at 56 u64 d.strange ∷
+    at 64 u64 d.extra ∷ at 72 u64 d.runs ∷ at 80 u64 d.longest ∷ at 88 u64 d.latest ∷ at 96 u64 d.exchanged ∷
+    at 104 u64 d.exchanged_hart ∷ [])
 hart_row_lies = (refl, λ d b o κ. refl)
 
 arrival_lies : Lies Arrival.the_row 32 (λ d. at 0 u64 d.number ∷ at 8 u64 d.by ∷ at 16 u64 d.offset ∷
@@ -135,18 +132,3 @@ path_end_lies : Lies PathEnd.the_row 96 (λ d. at 0 u64 d.harts ∷ at 8 u64 d.m
     at 72 u32 d.has_sent_header ∷ at 76 u32 d.has_received_header ∷ at 80 u32 d.header_fault ∷
     at 84 u32 d.headers_differ ∷ at 88 u32 d.has_first ∷ at 92 u32 d.whole ∷ [])
 path_end_lies = (refl, λ d b o κ. refl)
-
-aligned_row_lies : Lies AlignedRow.the_row 56 (λ d. at 0 u64 d.sent ∷ at 8 u64 d.came ∷ at 16 u64 d.lost ∷
-    at 24 u64 d.extra ∷ at 32 u64 d.runs ∷ at 40 u64 d.longest ∷ at 48 u32 d.whole ∷ [])
-aligned_row_lies = (refl, λ d b o κ. refl)
-
-single_lies : Lies Single.the_row 32 (λ d. at 0 u64 d.place ∷ at 8 u64 d.number ∷ at 16 u64 d.skips ∷
-    at 24 u32 d.fate ∷ at 28 u16 d.hart ∷ [])
-single_lies = (refl, λ d b o κ. refl)
-
-aligned_end_lies : Lies AlignedEnd.the_row 96 (λ d. at 0 u64 d.harts ∷ at 8 u64 d.messages ∷ at 16 u64 d.singles ∷
-    at 24 u64 d.lost_runs ∷ at 32 u64 d.strangers ∷ at 40 u64 d.first ∷ at 48 HeaderNumbers.the_row d.sent_header ∷
-    at 56 HeaderNumbers.the_row d.received_header ∷ at 64 u32 d.has_sent_header ∷ at 68 u32 d.has_received_header ∷
-    at 72 u32 d.header_fault ∷ at 76 u32 d.fault ∷ at 80 u32 d.headers_differ ∷ at 84 u32 d.has_first ∷
-    at 88 u32 d.whole ∷ [])
-aligned_end_lies = (refl, λ d b o κ. refl)

@@ -1,6 +1,6 @@
 -- Pieces that are added one after the other make what all of them make.
-use Rattle.std.proofs.Common.{◌≡◌, ◌⊎◌, inl, inr, ℕ, ◌+◌, ◌-◌, ◌<◌, ◌≤◌, ◌++◌, List, [], ◌∷◌, Ok, Err, IsOk, Result, Bool, true, false, length}
-use Rattle.std.proofs.Common.{if◌then◌else◌, drop, take, slice_index_or, refl, sym, ap, subst, ◌∙◌, arith}
+use Rattle.std.proofs.Common.{◌≡◌, ◌⊎◌, inl, inr, ℕ, ◌+◌, ◌-◌, ◌<◌, ◌≤◌, ◌++◌, List, [], ◌∷◌, Ok, Err, IsOk, Result, Bool, true, length}
+use Rattle.std.proofs.Common.{drop, take, slice_index_or, refl, sym, ap, subst, ◌∙◌, arith}
 use Rattle.std.proofs.Math.Dec.{leb-zero}
 use Rattle.std.proofs.lemmas.List.{length-append, length-drop, take-append-drop, take_all, take_more}
 use Rattle.std.specs.Prelude.{◌&&◌}
@@ -10,9 +10,9 @@ use Rattle.rvclass.specs.Image.{Image}
 use Rattle.ffi.specs.Images.{IsJudged, Judged, Judges, NoMemory, are_sorted_from, judged_image, judged_in_turn}
 use Rattle.ffi.specs.Images.{judged_next, judged_pieces, with_piece, with_pieces}
 use Rattle.ffi.specs.declared.fault.ImageFault.{ImageFault}
-use Rattle.ffi.specs.declared.fault.ImageFault.TheVariants.{Memory, NotSorted}
+use Rattle.ffi.specs.declared.fault.ImageFault.TheVariants.{Memory}
 use Rattle.ffi.specs.declared.images.ImagePiece.{ImagePiece}
-use Rattle.ffi.specs.steps.Adding.{AreAdded, IsCopied}
+use Rattle.ffi.specs.steps.Adding.{AreAdded}
 use Rattle.ffi.specs.steps.Adding as steps
 
 -- Pieces are added before those that come after them.
@@ -76,13 +76,6 @@ module _ (first program : Image) (pieces : List ImagePiece) (place : ℕ) (d : I
   refused fault (inl (is_memory, some)) = no_memory (Err fault) (ap Err is_memory) some
   refused fault (inr why) = steps.Adds (first_fault fault why)
 
-  -- Of copies the same.
-  pub copy_refused : (fault : ImageFault)
-      → (fault ≡ Memory) ⊎ (judged_next (add_piece program piece.base piece.bytes.now) ≡ Err fault)
-      → IsCopied (with_pieces (Ok first) pieces) (Err fault)
-  copy_refused fault (inl is_memory) = inr (ap Err is_memory)
-  copy_refused fault (inr why) = inl (first_fault fault why)
-
 -- All pieces are added.
 pub added_all : (first program : Image) (pieces : List ImagePiece) (place : ℕ) → length pieces ≤ place
     → with_pieces (Ok first) (take place pieces) ≡ Ok program → Ok program ≡ with_pieces (Ok first) pieces
@@ -93,10 +86,6 @@ added_all first program pieces place past so_far =
 sorted_judged : (pieces : List ImagePiece) → are_sorted_from 0 pieces ≡ true
     → judged_pieces pieces ≡ judged_in_turn pieces
 sorted_judged pieces sorted = rw sorted refl
-
--- A program is no fault.
-no_such : (program : Image) (fault : ImageFault) → Ok program ≡ Err fault → ⊥
-no_such program fault never = cc
 
 -- The first piece and the others are all pieces.
 parts_of : (pieces : List ImagePiece) (d : ImagePiece) → 1 ≤ length pieces
@@ -152,36 +141,3 @@ judged_first_fault pieces d fault sorted some begins =
     sym (fault_stays fault (drop 1 pieces))
     ∙ ap (λ (begun : Judged). with_pieces begun (drop 1 pieces)) begins
     ∙ all_judged pieces d sorted some
-
--- Copies of the others with a copy of the first are a copy of all.
-pub copied_others : (pieces : List ImagePiece) (d : ImagePiece) (program : Image) (copied : Judged)
-    → are_sorted_from 0 pieces ≡ true → 1 ≤ length pieces
-    → IsCopied (judged_image (slice_index_or pieces 0 d).base (slice_index_or pieces 0 d).bytes.now) (Ok program)
-    → IsCopied (with_pieces (Ok program) (drop 1 pieces)) copied
-    → IsCopied (judged_pieces pieces) copied
-copied_others pieces d program copied sorted some (inl begins) (inl all) =
-    inl (all ∙ ap (λ (begun : Judged). with_pieces begun (drop 1 pieces)) begins ∙ all_judged pieces d sorted some)
-copied_others pieces d program copied sorted some (inl begins) (inr none) = inr none
-copied_others pieces d program copied sorted some (inr never) all = absurd (no_such program Memory never)
-
--- A fault of the first is that of all.
-pub copied_first : (pieces : List ImagePiece) (d : ImagePiece) (fault : ImageFault)
-    → are_sorted_from 0 pieces ≡ true → 1 ≤ length pieces
-    → IsCopied (judged_image (slice_index_or pieces 0 d).base (slice_index_or pieces 0 d).bytes.now) (Err fault)
-    → IsCopied (judged_pieces pieces) (Err fault)
-copied_first pieces d fault sorted some (inl begins) = inl (judged_first_fault pieces d fault sorted some begins)
-copied_first pieces d fault sorted some (inr none) = inr none
-
--- Pieces that are not sorted make no program.
-by_sorted : (pieces : List ImagePiece) (sorted : Bool) (program : Image) → are_sorted_from 0 pieces ≡ sorted
-    → Ok program ≡ judged_pieces pieces → are_sorted_from 0 pieces ≡ true
-by_sorted pieces true program sorted is = sorted
-by_sorted pieces false program sorted is =
-    absurd (no_such program NotSorted
-    (is ∙ ap (λ b. if b then judged_in_turn pieces else Err NotSorted) sorted))
-
--- Where pieces make a program, they are sorted.
-pub sorted_where_judged : (pieces : List ImagePiece) (program : Image) → IsJudged pieces (Ok program)
-    → are_sorted_from 0 pieces ≡ true
-sorted_where_judged pieces program (Judges is) = by_sorted pieces (are_sorted_from 0 pieces) program refl is
-sorted_where_judged pieces program (NoMemory sorted front rest whole two ok none) = sorted

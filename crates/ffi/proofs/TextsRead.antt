@@ -6,6 +6,7 @@ use Rattle.legalpath.specs.ProgramLog.{ProgramLog}
 use Rattle.rvclass.specs.Image.{Image}
 use Rattle.ffi.specs.Encoded.{AreLogs, IsLegalText, IsNoLegalText, IsRefusedLog, last_end, text_between}
 use Rattle.ffi.specs.declared.fault.Fault.{Fault}
+use Rattle.ffi.specs.steps.OfTexts.{AreTextsOf, IsTextOf}
 
 -- One text more ends where it ends.
 last_end_more : (from : ℕ) (front : List ℕ) (end : ℕ) → last_end from (front ++ end ∷ []) ≡ end
@@ -54,11 +55,39 @@ read_more program bytes ends place from logs end log within is read legal =
       at = sym (ap (last_end 0) next ∙ last_end_more 0 (take place ends) end);
     }
 
--- All were.
-pub read_all : (program : Image) (bytes ends : List ℕ) (place from : ℕ) (logs : List ProgramLog) → length ends ≤ place
-    → AreRead program bytes ends place from logs → AreLogs program bytes 0 ends logs
-read_all program bytes ends place from logs past read =
-    subst (λ front. AreLogs program bytes 0 front logs) (take_all place ends past) read.are
+-- The first texts were read, and this holds of their logs.
+pub record AreUpTo (program : Image) (bytes ends : List ℕ) (place from : ℕ) (Holds : List ProgramLog → Type 0) : Type 0
+  where
+    pub logs : List ProgramLog
+    pub read : AreRead program bytes ends place from logs
+    pub holds : Holds logs
+
+module _ (program : Image) (bytes ends : List ℕ) (place from : ℕ) (Before Then : List ProgramLog → Type 0) where
+  -- One more was, and so that holds of them.
+  pub up_to_more : (end : ℕ) (Of : ProgramLog → Type 0) → place < length ends → end ≡ slice_index_or ends place 0
+      → ((logs : List ProgramLog) (log : ProgramLog) → length logs ≡ place → Before logs → Of log
+      → Then (logs ++ log ∷ []))
+      → AreUpTo program bytes ends place from Before → IsTextOf program (text_between bytes from end) Of
+      → AreUpTo program bytes ends (place + 1) end Then
+  up_to_more end Of within is next before more =
+      let many = as_many program bytes 0 (take place ends) before.logs before.read.are
+      ∙ length-take-le place ends (omega arith) in
+      record {
+        logs = before.logs ++ more.log ∷ [];
+        read = read_more program bytes ends place from before.logs end more.log within is before.read more.legal;
+        holds = next before.logs more.log many before.holds more.holds;
+      }
+
+  -- All were, and so that holds of them.
+  pub up_to_all : length ends ≤ place → ((logs : List ProgramLog) → length logs ≡ length ends → Before logs → Then logs)
+      → AreUpTo program bytes ends place from Before → AreTextsOf program bytes ends Then
+  up_to_all past last done =
+      let all = subst (λ front. AreLogs program bytes 0 front done.logs) (take_all place ends past) done.read.are in
+      record {
+        logs = done.logs;
+        are = all;
+        holds = last done.logs (as_many program bytes 0 ends done.logs all) done.holds;
+      }
 
 -- One is refused.
 pub read_refused : (program : Image) (bytes ends : List ℕ) (place from : ℕ) (logs : List ProgramLog) (end : ℕ)

@@ -1,16 +1,15 @@
 -- What a call reports of an audit of all harts.
-use Rattle.std.specs.Prelude.{ℕ, ◌≡◌, ◌<◌, ◌≤◌, ◌==◌, ◌&&◌, ◌||◌, ◌++◌, nat_le, not, Bool, true, false, if◌then◌else◌}
+use Rattle.std.specs.Prelude.{ℕ, ◌≡◌, ◌<◌, ◌≤◌, ◌==◌, ◌&&◌, ◌||◌, ◌++◌, nat_le, not, Bool, false, if◌then◌else◌}
 use Rattle.std.specs.Prelude.{List, [], ◌∷◌, Option, Some, None, is_none, is_some, unwrap_or, drop, length, map}
 use Rattle.std.specs.List.{flat_map, list_all, range_with_len}
 use Rattle.payload.specs.declared.by.By.{By}
-use Rattle.payload.specs.declared.by.By.TheVariants as by
 use Rattle.auditing.specs.Findings.{finding_of, first_found}
 use Rattle.auditing.specs.HartRows.{row_of}
 use Rattle.auditing.specs.Judged.{strangers_in}
 use Rattle.auditing.specs.Known.{known_all, known_one}
 use Rattle.auditing.specs.Losing.{lost_runs}
 use Rattle.auditing.specs.Seen.{sight_of}
-use Rattle.auditing.specs.Sent.{IsSent, IsSentFault, harts_of}
+use Rattle.auditing.specs.Sent.{IsSent, harts_of}
 use Rattle.auditing.specs.declared.exchange.Exchanged.{Exchanged}
 use Rattle.auditing.specs.declared.fault.SentFault.{SentFault}
 use Rattle.auditing.specs.declared.fault.SentFault.TheVariants as sent
@@ -41,8 +40,8 @@ use Rattle.ffi.specs.declared.path_numbers.LostRun.{LostRun}
 use Rattle.ffi.specs.declared.path_numbers.PathEnd.{PathEnd}
 use Rattle.ffi.specs.declared.path_numbers.SentPlace.{SentPlace}
 use Rattle.ffi.specs.declared.path_numbers.TheConstants.{FATE_IN_ORDER, FATE_LATE, FATE_REPEAT}
-use Rattle.ffi.specs.declared.path_numbers.TheConstants.{FATE_CHANGED, FATE_STRANGER, BY_PACKETS}
-use Rattle.ffi.specs.declared.status.TheConstants.{DONE, TOO_SMALL, MEMORY, OUT_OF_RANGE}
+use Rattle.ffi.specs.declared.path_numbers.TheConstants.{FATE_CHANGED, FATE_STRANGER}
+use Rattle.ffi.specs.declared.status.TheConstants.{DONE, TOO_SMALL, MEMORY}
 
 -- A tally in numbers.
 abbrev pub tally_reported : Tally → HartTally
@@ -76,6 +75,7 @@ abbrev pub row_reported : HartRow → HartRowNumbers
 row_reported row = record {
   tally = tally_reported row.tally;
   strange = row.strange;
+  extra = 0;
   runs = row.runs;
   longest = row.longest;
   latest = row.latest;
@@ -253,23 +253,3 @@ pub record AreGiven (rows : List HartRowNumbers) (arrivals : List Arrival) (lost
   pub said : status
       ≡ fitting_status (nat_le (length rows) (length old.rows)) (nat_le (length arrivals) (length old.arrivals))
       (nat_le (length lost) (length old.lost)) (nat_le (length runs) (length old.runs))
-
--- By what payloads are compared: by their bytes, or with the flag by the packets that they unpack to. No other flag is
--- known.
-abbrev pub compared_by : ℕ → Option By
-compared_by flags = if flags == 0 then Some by.Bytes else if flags == BY_PACKETS then Some by.Packets else None
-
--- All harts were audited, and it was reported. Or a flag is not known, SENT is refused, or an allocation failed: the
--- status says why, the place names the message of SENT that is refused, and nothing else was written.
-pub data ReportsAuditAll (how : Option By) (sent received : List ℕ) (status : ℕ) (old new : Arrays)
-    (place_before place : SentPlace) (end_before end : PathEnd) : Type 0 where
-  OutOfRange : how ≡ None → status ≡ OUT_OF_RANGE → place ≡ place_before → new ≡ old → end ≡ end_before
-      → ReportsAuditAll how sent received status old new place_before place end_before end
-  Found : (own : By) → how ≡ Some own
-      → (rows : List HartRowNumbers) (arrivals : List Arrival) (lost : List LostRun) (runs : List ByteRun)
-      → IsAuditedAll own sent received rows arrivals lost runs end → AreGiven rows arrivals lost runs status old new
-      → place ≡ place_before
-      → ReportsAuditAll how sent received status old new place_before place end_before end
-  Refused : (own : By) → how ≡ Some own → (why : SentFault) → IsSentFault sent why → status ≡ sent_status why
-      → place ≡ sent_place why → new ≡ old → end ≡ end_before
-      → ReportsAuditAll how sent received status old new place_before place end_before end

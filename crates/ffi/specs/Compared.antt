@@ -1,8 +1,11 @@
 -- What a call reports of a capture and logs.
-use Rattle.std.specs.Prelude.{ℕ, ◌≡◌, ◌≢◌, ◌⊎◌, Bool, List, Option, Result, Ok, Err, length, map}
+use Rattle.std.specs.Prelude.{ℕ, ◌≡◌, ◌≢◌, ◌⊎◌, Bool, false, List, None, Option, Result, Ok, Err, length, map}
 use Rattle.bench.specs.Got.{Got}
 use Rattle.captures.specs.declared.outcome.CaptureFault.{CaptureFault}
-use Rattle.comparing.specs.Compared.{AreGot, comparison_text, is_compared_whole}
+use Rattle.comparing.specs.Compared.{AreGot, is_compared_whole}
+use Rattle.comparing.specs.Explained.{explained_harts, explained_text}
+use Rattle.comparing.specs.Sourced.{AreSourced}
+use Rattle.comparing.specs.declared.sourcing.SourcedHart.{SourcedHart}
 use Rattle.legalpath.specs.ProgramLog.{ProgramLog}
 use Rattle.rvclass.specs.Fetch.{words_of}
 use Rattle.rvclass.specs.Image.{Image}
@@ -43,7 +46,8 @@ pub record HoldsFor (image : Judged) (harts : ℕ) (capture : List ℕ) (program
   pub got : AreGot (words_of program) harts capture gots stop
   pub memory : stop_fault stop ≢ MEMORY
 
--- The text says how a capture compares with the legal logs of texts, as many as it has harts, and this is how it ends.
+-- The text says how a capture compares with the legal logs of texts, as many as it has harts, and below the line of each
+-- that is not whole the first row in which both differ and the message that it comes from; and this is how it ends.
 pub record HasComparison (image : Judged) (harts : ℕ) (capture bytes ends text : List ℕ) (end : TextEnd)
     : Type 0 where
   pub program : Image
@@ -53,7 +57,9 @@ pub record HasComparison (image : Judged) (harts : ℕ) (capture bytes ends text
   pub logs : List ProgramLog
   pub many : length logs ≡ length gots
   pub are : AreLogs program bytes 0 ends logs
-  pub written : text ≡ comparison_text stop gots logs
+  pub sourced : List SourcedHart
+  pub from : AreSourced (words_of program) capture stop (explained_harts 0 gots logs) sourced
+  pub written : text ≡ explained_text false None stop sourced
   pub ended : end ≡ compare_end (closed_in gots) stop (is_compared_whole stop gots logs)
 
 -- There are more or fewer logs than the capture has harts.

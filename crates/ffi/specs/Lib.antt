@@ -26,4 +26,5 @@ pub mod Sending
 pub mod OfLines
 pub mod AuditedAll
 pub mod AuditedUnnumbered
+pub mod AuditReported
 pub mod steps

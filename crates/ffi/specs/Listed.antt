@@ -122,7 +122,7 @@ pub record HasTreated (asked : Option ℕ) (capture : List ℕ) (format : Form) 
   pub found : IsSalvagedCapture asked program capture header why salvaged
   pub done : AreTreatedBehind header asked program capture treated
   pub laid_out : text
-      ≡ treated_text_of format every_hart file header capture (in_rows (all_messages header capture) treated)
+      ≡ treated_text_of format every_hart file header capture (in_rows format (all_messages header capture) treated)
   pub ended : end ≡ salvage_end every_hart why (list_any is_run (spans_of header capture)) salvaged
 
 -- What salvaging does with each message of a capture was written, and the result was reported.

@@ -6,7 +6,10 @@ pub mod PushingAll
 pub mod FeedingAll
 pub mod Adding
 pub mod Walking
+pub mod Aligning
 pub mod Listing
 pub mod Explaining
+pub mod OfTexts
 pub mod Measuring
+pub mod Encoding
 pub mod Comparing

@@ -2,16 +2,19 @@
 
 ghost use Rattle.std.specs.Prelude.{◌≡◌, ◌≤◌, IfErr, IfOk, length};
 ghost use Rattle.comparing.specs.Compared.{got_by, gots_by};
-ghost use Rattle.comparing.specs.Lines.{line_of};
+ghost use Rattle.comparing.specs.Explained.{explained_hart};
+ghost use Rattle.comparing.specs.Sourced.{AreNumbered};
 ghost use Rattle.comparing.specs.steps.Held.{count_in};
 ghost use Rattle.legalpath.specs.ProgramLog.{program_log};
 ghost use Rattle.receiver.specs.Received.{events_in};
 ghost use Rattle.retire.specs.Log.{most_rows};
+ghost use Rattle.rvclass.specs.Fetch.{words_of};
 ghost use Rattle.rvclass.specs.Image.{Image};
 ghost use Rattle.ffi.specs.Compared.{IsCompared, ReportsCompare, ReportsCompared, text_row};
 ghost use Rattle.ffi.specs.Encoded.{IsRefusedLog};
 ghost use Rattle.ffi.specs.Images.{OfPieces};
 ghost use Rattle.ffi.specs.steps.Comparing.{AreCompared, Writes};
+ghost use Rattle.ffi.specs.steps.OfTexts.{AreTextsOf};
 
 use crate::decoding::{stop_fault, stop_place};
 use crate::encoding::{LogPlace, text_between};
@@ -23,12 +26,15 @@ use crate::status::MEMORY;
 use crate::texts::{TextEnd, TextFault, Written, first_unclosed};
 use bench::ComparedHart;
 use captures::{CaptureFault, CaptureOutcome, decode_capture};
-use comparing::{Comparing, HartCount, counts_of, write_comparison};
+use comparing::{
+    Comparing, ExplainedHart, Explaining, HartCount, counts_of, sources_of, write_explained,
+};
 use retire::{Event, WriteFault};
 use rvclass::ProgramOver;
 use std::alloc::Global;
 
-/// Writes how a capture compares with the logs of its harts to a buffer, hart 0 first, as `tracebench compare` prints it.
+/// Writes how a capture compares with the logs of its harts to a buffer, hart 0 first, as `tracebench compare` prints it:
+/// also the first row in which a log and what is decoded of it differ, and the message that it comes from.
 /// `logs` holds the texts of the logs, one after the other, and `ends` where each ends; what is after the last end is not
 /// looked at. The harts are those that the header counts, or without a header those below `harts`, and there has to be a
 /// log for each.
@@ -123,13 +129,15 @@ fn compare_logs(
     if ends.len() != outcome.harts.len() {
         return Err((0, TextFault::Count));
     }
-    let lines = match compare_each(alloc, program, logs, ends, &outcome, counts.as_slice()) {
-        Ok(lines) => lines,
+    let said = match compare_each(alloc, program, logs, ends, &outcome, counts.as_slice()) {
+        Ok(said) => said,
         Err((place, why)) => return Err((place, TextFault::Of(why))),
     };
-    match write_lines(
+    match write_said(
         alloc,
-        lines.as_slice(),
+        program,
+        capture,
+        said.as_slice(),
         outcome.closed.as_slice(),
         outcome.fault,
     ) {
@@ -138,17 +146,28 @@ fn compare_logs(
     }
 }
 
-/// The report of these lines, and how it ends.
-fn write_lines(
+/// The report of what is said of harts, with the messages of the capture that rows come from, and how it ends.
+fn write_said(
     alloc: Global,
-    lines: &[ComparedHart],
+    program: &ProgramOver<'_>,
+    capture: &[u8],
+    said: &[ExplainedHart],
     closed: &[bool],
     stop: Option<(u64, CaptureFault)>,
 ) -> Result<Written, WriteFault>
-    ensures { IfOk result (Writes lines.now closed.now stop) }
+    requires { AreNumbered 0 said.now }
+    ensures { IfOk result (Writes (words_of program.now) capture.now said.now closed.now stop) }
 {
+    let Ok(sourced) = sources_of(alloc, program, capture, stop, 0, said) else {
+        return Err(WriteFault::Memory);
+    };
+    let how: Explaining<'_> = Explaining {
+        before: false,
+        symbols: None,
+        stop,
+    };
     let mut text = Vec::new(alloc);
-    let whole = write_comparison(lines, stop.is_none(), &mut text)?;
+    let whole = write_explained(&how, sourced.as_slice(), &mut text)?;
     let end = TextEnd {
         harts: closed.len() as u64,
         unclosed: first_unclosed(closed),
@@ -159,7 +178,7 @@ fn write_lines(
     Ok(Written { text, end })
 }
 
-/// The line of each hart, by its log, or the log that is at fault and why.
+/// What is said of each hart, by its log, or the log that is at fault and why.
 fn compare_each(
     alloc: Global,
     program: &ProgramOver<'_>,
@@ -167,14 +186,14 @@ fn compare_each(
     ends: &[u64],
     outcome: &CaptureOutcome,
     counts: &[HartCount],
-) -> Result<Vec<ComparedHart>, (u64, Fault)>
+) -> Result<Vec<ExplainedHart>, (u64, Fault)>
     requires many { length ends.now ≡ length outcome.now.harts.items }
     requires flags { length outcome.now.closed.items ≡ length outcome.now.harts.items }
-    ensures lines { IfOk result (λ lines. AreCompared program.now logs.now ends.now
-        (gots_by (count_in counts.now) 0 (events_in outcome.now.harts.items) outcome.now.closed.items) lines.items) }
+    ensures said { IfOk result (λ said. AreTextsOf program.now logs.now ends.now (AreCompared
+        (gots_by (count_in counts.now) 0 (events_in outcome.now.harts.items) outcome.now.closed.items) said.items)) }
     ensures refused { IfErr result (λ why. IsRefusedLog program.now logs.now ends.now why.0 why.1) }
 {
-    let mut lines = Vec::new(alloc);
+    let mut said = Vec::new(alloc);
     let mut from = 0;
     for place in 0..ends.len() {
         let end = ends[place];
@@ -186,14 +205,14 @@ fn compare_each(
         let decoded = &outcome.harts[place];
         let closed = outcome.closed[place];
         let count = count_at(counts, place);
-        let line = line_of(place, decoded.as_slice(), closed, count, events.as_slice());
-        match lines.push(line) {
+        let one = explained_of(place, decoded.as_slice(), closed, count, events.as_slice());
+        match said.push(one) {
             Ok(()) => {}
             Err(_) => return Err((place as u64, Fault::Memory)),
         }
         from = end;
     }
-    Ok(lines)
+    Ok(said)
 }
 
 /// The count of a hart.
@@ -206,26 +225,30 @@ fn count_at(counts: &[HartCount], hart: usize) -> HartCount
     }
 }
 
-/// The line of a hart by what was decoded of it and the events of its log.
-fn line_of(
+/// What is said of a hart by what was decoded of it and the events of its log.
+fn explained_of(
     hart: usize,
     decoded: &[Event],
     closed: bool,
     count: HartCount,
     events: &[Event],
-) -> ComparedHart
+) -> ExplainedHart
     requires { length events.now ≤ most_rows }
-    ensures { (program : Image) → result ≡ line_of hart (got_by count decoded.now closed)
+    ensures { (program : Image) → result ≡ explained_hart hart (got_by count decoded.now closed)
         (program_log program events.now) }
 {
     let mut comparing = Comparing::new();
     comparing.add(decoded, events);
-    ComparedHart {
-        hart,
-        events: comparing.events(),
-        taken: count.taken,
-        bytes: count.bytes,
-        decoded: decoded.len(),
-        verdict: comparing.verdict(closed),
+    ExplainedHart {
+        line: ComparedHart {
+            hart,
+            events: comparing.events(),
+            taken: count.taken,
+            bytes: count.bytes,
+            decoded: decoded.len(),
+            verdict: comparing.verdict(closed),
+        },
+        row: comparing.row(),
+        near: comparing.near(),
     }
 }

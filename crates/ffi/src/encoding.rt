@@ -1,26 +1,24 @@
 //! From the texts of logs to a capture.
 
-ghost use Rattle.std.specs.Prelude.{◌≡◌, ◌≤◌, Err, IfErr, IfOk, IfSome, None, length, option_map};
+ghost use Rattle.std.specs.Prelude.{◌≡◌, ◌≤◌, IfErr, IfOk, IfSome, None, length, option_map};
 ghost use Rattle.captures.specs.Versions.{capture_of};
 ghost use Rattle.message.specs.Version.{most_harts};
-ghost use Rattle.ffi.specs.Encoded.{AreInRange, AreLogs, IsLegalText, IsMade, IsNoLegalText};
-ghost use Rattle.ffi.specs.Encoded.{IsOutOfRange, IsRefusedLog, ReportsEncode, ReportsMade, mode_of};
-ghost use Rattle.ffi.specs.Encoded.{text_between, version_of};
-ghost use Rattle.ffi.specs.Images.{judged_pieces};
-ghost use Rattle.ffi.specs.declared.fault.Fault.TheVariants.{Memory};
-ghost use Rattle.ffi.specs.declared.fault.ImageFault.TheVariants as ImageFault;
+ghost use Rattle.message.specs.declared.header.Version.TheVariants.{Two};
+ghost use Rattle.ffi.specs.Encoded.{AreInRange, IsEncoded, IsMade, IsNoLegalText, IsOutOfRange, IsRefusedLog};
+ghost use Rattle.ffi.specs.Encoded.{ReportsEncode, ReportsMade, mode_of, text_between, version_of};
+ghost use Rattle.ffi.specs.Images.{OfPieces};
+ghost use Rattle.ffi.specs.steps.Encoding.{AddsLogs, IsEncodedLog};
+ghost use Rattle.ffi.specs.steps.OfTexts.{AreTextsOf, IsTextOf};
 
-use crate::copying::{Copied, copy_pieces};
-use crate::fault::{Fault, ImageFault};
+use crate::fault::Fault;
 use crate::handing::hand_out;
-use crate::images::ImagePiece;
+use crate::images::{ImagePiece, Judged, judge_pieces};
+use crate::legal_texts::legal_events;
 use crate::numbers::{DIFFERENTIAL, FULL};
-use captures::encode_capture;
-use legalpath::LegalLog;
+use captures::{CaptureBytes, HartMessages, write_start};
 use message::Version;
 use payload::Mode;
-use retire::read_log_from_slice;
-use rvclass::Program;
+use rvclass::ProgramOver;
 use std::alloc::Global;
 
 /// A capture without a header.
@@ -71,15 +69,11 @@ pub fn tracebench_encode(
     wanted: &mut u64,
     place: &mut LogPlace,
 ) -> u32
-    ensures { ReportsEncode (judged_pieces pieces.now) logs.now ends.now period mode version result wanted.old
-        wanted.new place.old place.new buffer.old buffer.new }
+    ensures { OfPieces pieces.now (λ image. ReportsEncode image logs.now ends.now period mode version result wanted.old
+        wanted.new place.old place.new buffer.old buffer.new) }
 {
-    let settings = match settings_of(ends, period, mode, version) {
-        Some(settings) => settings,
-        None => return report_made(Err((0, Fault::Range)), buffer, wanted, place),
-    };
-    let copied = copy_pieces(alloc, pieces);
-    let made = encode_logs(alloc, &copied, logs, ends, settings);
+    let judged = judge_pieces(alloc, pieces);
+    let made = encode_logs(alloc, &judged, logs, ends, period, mode, version);
     report_made(made, buffer, wanted, place)
 }
 
@@ -126,10 +120,29 @@ pub(crate) fn settings_of(ends: &[u64], period: u16, mode: u32, version: u32) ->
     })
 }
 
-/// The capture of logs in these settings, or the log that is at fault and why.
+/// The capture of logs, or the log that is at fault and why.
 fn encode_logs(
     alloc: Global,
-    copied: &Copied,
+    image: &Judged<'_>,
+    logs: &[u8],
+    ends: &[u64],
+    period: u16,
+    mode: u32,
+    version: u32,
+) -> Result<Vec<u8>, (u64, Fault)>
+    ensures { IsEncoded image.now logs.now ends.now period mode version
+        (λ mode version. capture_of version period mode) result }
+{
+    match settings_of(ends, period, mode, version) {
+        Some(settings) => encode_in(alloc, image, logs, ends, settings),
+        None => Err((0, Fault::Range)),
+    }
+}
+
+/// The capture of logs in these settings, or the log that is at fault and why.
+fn encode_in(
+    alloc: Global,
+    image: &Judged<'_>,
     logs: &[u8],
     ends: &[u64],
     settings: Settings,
@@ -137,24 +150,87 @@ fn encode_logs(
     requires period { 1 ≤ settings.period }
     requires some { 1 ≤ length ends.now }
     requires few { length ends.now ≤ most_harts settings.version }
-    ensures made { IsMade copied.now logs.now ends.now (capture_of settings.version settings.period settings.mode) result }
-    ensures memory { copied.now ≡ Err ImageFault.Memory → result ≡ Err (0, Memory) }
+    ensures { IsMade image.now logs.now ends.now (capture_of settings.version settings.period settings.mode) result }
 {
+    let program = match image {
+        Ok(program) => program,
+        Err(why) => return Err((0, Fault::NoProgram(*why))),
+    };
     let Settings {
         period,
         mode,
         version,
     } = settings;
-    let program = match copied {
-        Ok(program) => program,
-        Err(ImageFault::Memory) => return Err((0, Fault::Memory)),
-        Err(why) => return Err((0, Fault::NoProgram(*why))),
-    };
-    let logs = read_logs(alloc, program, logs, ends)?;
     let mut capture = Vec::new(alloc);
-    match encode_capture(logs.as_slice(), period, mode, version, &mut capture) {
+    match write_start(&mut capture, version, period, mode, ends.len()) {
+        Ok(()) => {}
+        Err(_) => return Err((0, Fault::Memory)),
+    }
+    match encode_each(alloc, program, logs, ends, period, mode, &mut capture) {
         Ok(()) => Ok(capture),
-        Err(_) => Err((0, Fault::Memory)),
+        Err(why) => Err(why),
+    }
+}
+
+/// Adds the messages of each log to a capture, or returns the log that is at fault and why.
+fn encode_each(
+    alloc: Global,
+    program: &ProgramOver<'_>,
+    logs: &[u8],
+    ends: &[u64],
+    period: u16,
+    mode: Mode,
+    capture: &mut Vec<u8>,
+) -> Result<(), (u64, Fault)>
+    requires period { 1 ≤ period }
+    requires few { length ends.now ≤ most_harts Two }
+    ensures added { IfOk result (λ done. AreTextsOf program.now logs.now ends.now
+        (AddsLogs period mode capture.old.items capture.new.items)) }
+    ensures refused { IfErr result (λ why. IsRefusedLog program.now logs.now ends.now why.0 why.1) }
+{
+    let mut from = 0;
+    for place in 0..ends.len() {
+        let end = ends[place];
+        let text = text_between(logs, from, end);
+        let own = match encode_text(alloc, program, place as u16, text, period, mode) {
+            Ok(own) => own,
+            Err(fault) => return Err((place as u64, fault)),
+        };
+        match capture.extend_from_slice(own.as_slice()) {
+            Ok(()) => {}
+            Err(_) => return Err((place as u64, Fault::Memory)),
+        }
+        from = end;
+    }
+    Ok(())
+}
+
+/// The bytes of the messages of a hart, by the legal log of a text.
+fn encode_text(
+    alloc: Global,
+    program: &ProgramOver<'_>,
+    hart: u16,
+    text: Option<&[u8]>,
+    period: u16,
+    mode: Mode,
+) -> Result<Vec<u8>, Fault>
+    requires { 1 ≤ period }
+    ensures made { IfOk result (λ bytes.
+        IsTextOf program.now (option_map (λ own. own.now) text.entry) (IsEncodedLog hart period mode bytes.items)) }
+    ensures fault { IfErr result (IsNoLegalText program.now (option_map (λ own. own.now) text.entry)) }
+{
+    let events = match legal_events(alloc, program, text) {
+        Ok(events) => events,
+        Err(why) => return Err(why),
+    };
+    let mut messages = HartMessages::<CaptureBytes>::new(alloc, hart, period, mode);
+    match messages.add(program, events.as_slice()) {
+        Ok(()) => {}
+        Err(_) => return Err(Fault::Memory),
+    }
+    match messages.finish(program) {
+        Ok(bytes) => Ok(bytes),
+        Err(_) => Err(Fault::Memory),
     }
 }
 
@@ -180,55 +256,9 @@ pub(crate) fn version_of(number: u32) -> Option<Version>
     }
 }
 
-/// The legal logs of texts, or the first that is none and why.
-fn read_logs<'p>(
-    alloc: Global,
-    program: &'p Program,
-    logs: &[u8],
-    ends: &[u64],
-) -> Result<Vec<LegalLog<'p>>, (u64, Fault)>
-    ensures read { IfOk result (λ read. AreLogs program.now logs.now 0 ends.now read.items) }
-    ensures refused { IfErr result (λ why. IsRefusedLog program.now logs.now ends.now why.0 why.1) }
-{
-    let mut read = Vec::new(alloc);
-    let mut from = 0;
-    for place in 0..ends.len() {
-        let end = ends[place];
-        let log = match read_legal_log(alloc, program, text_between(logs, from, end)) {
-            Ok(log) => log,
-            Err(fault) => return Err((place as u64, fault)),
-        };
-        match read.push(log) {
-            Ok(()) => {}
-            Err(_) => return Err((place as u64, Fault::Memory)),
-        }
-        from = end;
-    }
-    Ok(read)
-}
-
 /// The bytes from one place up to another.
 pub(crate) fn text_between(logs: &[u8], from: u64, end: u64) -> Option<&[u8]>
     ensures { option_map (λ text. text.now) result ≡ text_between logs.now from end }
 {
     logs.get(from as usize..end as usize)
-}
-
-/// The legal log of a text.
-fn read_legal_log<'p>(
-    alloc: Global,
-    program: &'p Program,
-    text: Option<&[u8]>,
-) -> Result<LegalLog<'p>, Fault>
-    ensures log { IfOk result (λ log. IsLegalText program.now (option_map (λ own. own.now) text.entry) log) }
-    ensures fault { IfErr result (IsNoLegalText program.now (option_map (λ own. own.now) text.entry)) }
-{
-    let Some(text) = text else {
-        return Err(Fault::Ends);
-    };
-    let events = read_log_from_slice(alloc, alloc, text)?;
-    match LegalLog::new(program, events) {
-        Ok(log) => Ok(log),
-        Err((why, _)) => Err(Fault::Illegal(why)),
-    }
 }

@@ -5,9 +5,9 @@
 //! caller's. What a call gives back as bytes, packets or events goes into a buffer of the caller's. Where that is too
 //! small, the call says how many it wants and writes none of them.
 //!
-//! A program is handed in as pieces of its image, sorted by base, which are not copied but by `tracebench_encode`. One
-//! piece takes no memory. Of two or more a list is made while the call runs; where that fails, the status is
-//! [`MEMORY`](status::MEMORY), and what the call writes stays, but for counts and rows, which are 0.
+//! A program is handed in as pieces of its image, sorted by base, which are not copied. One piece takes no memory. Of two
+//! or more a list is made while the call runs; where that fails, the status is [`MEMORY`](status::MEMORY), and what the
+//! call writes stays, but for counts and rows, which are 0.
 //!
 //! The static library `tracebench_c` exports each call with the same contract. C passes a slice as a pointer and a
 //! length, and a reference as a pointer; `include/tracebench.h` declares the calls as C sees them, and says what a
@@ -16,10 +16,9 @@
 
 mod aligned_audit;
 mod aligned_harts;
-mod aligned_numbers;
+mod aligned_reading;
 mod checking;
 mod comparing_logs;
-mod copying;
 mod decoder_state;
 mod decoding;
 mod dumping;
@@ -55,8 +54,6 @@ pub mod status;
 mod texts;
 mod version;
 
-pub use aligned_audit::tracebench_audit_unnumbered;
-pub use aligned_numbers::{AlignedEnd, AlignedRow, FATE_EXTRA, Single};
 pub use checking::{EventsFault, tracebench_check, tracebench_check_events};
 pub use comparing_logs::tracebench_compare;
 pub use decoder_state::{CLOSED, DecoderNumbers, PASSING_OVER, RUNNING, UNOPENED};
@@ -82,10 +79,10 @@ pub use numbers::{
     SYNC, TRAP, UPDISCON,
 };
 pub use packing::{tracebench_pack, tracebench_unpack};
-pub use path_all::tracebench_audit_all;
+pub use path_all::{AuditBy, tracebench_audit_all};
 pub use path_numbers::{
-    Arrival, BY_PACKETS, ByteRun, FATE_CHANGED, FATE_IN_ORDER, FATE_LATE, FATE_REPEAT,
-    FATE_STRANGER, HartRowNumbers, HartTally, LostRun, PathEnd, SentPlace,
+    Arrival, BY_PACKETS, ByteRun, FATE_CHANGED, FATE_EXTRA, FATE_IN_ORDER, FATE_LATE, FATE_REPEAT,
+    FATE_STRANGER, HartRowNumbers, HartTally, LostRun, PathEnd, SentPlace, UNNUMBERED,
 };
 pub use pushing::{tracebench_encoder, tracebench_finish};
 pub use pushing_all::tracebench_push_all;

@@ -6,7 +6,6 @@ ghost use Rattle.ffi.specs.Listed.{HasListing, HasTreated, IsTextBy, IsTextIn, R
 ghost use Rattle.ffi.specs.Listed.{format_of, list_end, symbols_in};
 ghost use Rattle.ffi.specs.steps.Listing.{AreNotRead, HasAccount};
 
-use crate::copying::copy_bytes;
 use crate::decoding::{stop_fault, stop_place};
 use crate::fault::Fault;
 use crate::images::{ImagePiece, Judged, judge_pieces};
@@ -155,7 +154,7 @@ fn symbols_of(alloc: Global, bytes: &[u8]) -> Result<Option<Symbols>, SymbolsFau
     if bytes.is_empty() {
         return Ok(None);
     }
-    let file = match copy_bytes(alloc, bytes) {
+    let file = match Vec::from_slice(alloc, bytes) {
         Ok(file) => file,
         Err(_) => return Err(SymbolsFault::Memory),
     };
@@ -254,7 +253,7 @@ fn treat_by(
     )?;
     let messages = found.frames.messages.as_slice();
     let treated = treat_watched(alloc, program, harts, mode, messages, &NoProgress)?;
-    let rows = in_rows(alloc, messages, treated.as_slice())?;
+    let rows = in_rows(alloc, format, messages, treated.as_slice())?;
     let all = TreatedCapture {
         header: start.header,
         only: HartRange::ALL,

@@ -13,7 +13,8 @@ ghost use Rattle.rvclass.specs.Fetch.{words_of};
 ghost use Rattle.ffi.specs.Encoded.{IsEncoded, IsMade, IsNoLegalText, IsRefusedLog, ReportsMeasure};
 ghost use Rattle.ffi.specs.Images.{OfPieces};
 ghost use Rattle.ffi.specs.declared.encoding.TheConstants.{VERSION_TWO};
-ghost use Rattle.ffi.specs.steps.Measuring.{AreMeasured, IsMeasuredText};
+ghost use Rattle.ffi.specs.steps.Measuring.{AreMeasured, IsMeasured};
+ghost use Rattle.ffi.specs.steps.OfTexts.{AreTextsOf, IsTextOf};
 
 use crate::encoding::{LogPlace, VERSION_TWO, report_made, settings_of, text_between};
 use crate::fault::Fault;
@@ -108,7 +109,7 @@ fn measure_each(
 ) -> Result<Vec<Measures>, (u64, Fault)>
     requires { 1 ≤ period }
     ensures measured { IfOk result (λ measures.
-        AreMeasured program.now logs.now ends.now period mode measures.items) }
+        AreTextsOf program.now logs.now ends.now (AreMeasured period mode measures.items)) }
     ensures refused { IfErr result (λ why. IsRefusedLog program.now logs.now ends.now why.0 why.1) }
 {
     let mut measures = Vec::new(alloc);
@@ -138,8 +139,8 @@ fn measure_text(
     mode: Mode,
 ) -> Result<Measures, Fault>
     requires { 1 ≤ period }
-    ensures measured { IfOk result
-        (IsMeasuredText program.now (option_map (λ own. own.now) text.entry) period mode) }
+    ensures measured { IfOk result (λ measures.
+        IsTextOf program.now (option_map (λ own. own.now) text.entry) (IsMeasured period mode measures)) }
     ensures fault { IfErr result (IsNoLegalText program.now (option_map (λ own. own.now) text.entry)) }
 {
     match legal_events(alloc, program, text) {

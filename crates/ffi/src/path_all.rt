@@ -4,16 +4,17 @@ ghost use Rattle.std.specs.Prelude.{◌≡◌, [], IfErr, IfOk, List, length, na
 ghost use Rattle.auditing.specs.Audits.{Audits as IsAudit};
 ghost use Rattle.auditing.specs.Sent.{IsSentFault};
 ghost use Rattle.message.specs.declared.message.Message.{Message as AnyMessage};
-ghost use Rattle.ffi.specs.AuditedAll.{AreGiven, IsAuditedAll, IsGiven, ReportsAuditAll, compared_by};
-ghost use Rattle.ffi.specs.AuditedAll.{fitting_status};
+ghost use Rattle.ffi.specs.AuditedAll.{AreGiven, IsAuditedAll, IsGiven, fitting_status};
+ghost use Rattle.ffi.specs.AuditReported.{IsAudited, ReportsAuditAll, compared_by};
 ghost use Rattle.ffi.specs.steps.Walking.{HasCome};
 
+use crate::aligned_audit::audit_aligned;
 use crate::path_arrivals::take_spans;
 use crate::path_ending::end_of;
 use crate::path_harts::{lost_of, rows_of};
 use crate::path_numbers::{
-    Arrival, BY_PACKETS, ByteRun, HartRowNumbers, LostRun, PathEnd, SentPlace, sent_place,
-    sent_status,
+    Arrival, BY_PACKETS, ByteRun, HartRowNumbers, LostRun, PathEnd, SentPlace, UNNUMBERED,
+    sent_place, sent_status,
 };
 use crate::status::{DONE, OUT_OF_RANGE, TOO_SMALL};
 use auditing::{Audit, SentFault};
@@ -23,23 +24,25 @@ use std::alloc::{AllocError, Global};
 
 /// What is found of a path.
 #[derive(Drop)]
-struct PathFound {
+pub(crate) struct PathFound {
     /// What is found of each hart of SENT.
-    rows: Vec<HartRowNumbers>,
+    pub(crate) rows: Vec<HartRowNumbers>,
     /// The messages of RECEIVED that are taken.
-    arrivals: Vec<Arrival>,
+    pub(crate) arrivals: Vec<Arrival>,
     /// The longest runs of numbers that were lost.
-    lost: Vec<LostRun>,
+    pub(crate) lost: Vec<LostRun>,
     /// The longest runs of bytes of no message.
-    runs: Vec<ByteRun>,
+    pub(crate) runs: Vec<ByteRun>,
     /// The rest.
-    end: PathEnd,
+    pub(crate) end: PathEnd,
 }
 
 /// Audits RECEIVED against SENT, captures in either version, and reports what became of the messages of all harts of
 /// SENT: what `tracebench audit` reports. SENT is checked to its end first. In RECEIVED the messages are found among
 /// damaged bytes, as the program finds them. Payloads are compared by their bytes, or with the flag [`BY_PACKETS`] by
-/// the packets that they unpack to.
+/// the packets that they unpack to. With [`UNNUMBERED`] the numbers of RECEIVED are not looked at, as with
+/// `audit --unnumbered`: the payloads of each hart that came are matched in order with those that were sent. What was
+/// sent and is not matched is lost, and what came and is not matched is extra.
 ///
 /// `rows` is for what is found of each hart, `arrivals` for the messages of RECEIVED that are taken, in their order,
 /// `lost` for the longest runs of numbers that were lost, hart by hart, and `runs` for the longest runs of bytes of no
@@ -68,10 +71,10 @@ pub fn tracebench_audit_all(
         (record { rows = rows.new; arrivals = arrivals.new; lost = lost.new; runs = runs.new })
         refused.old refused.new ended.old ended.new }
 {
-    let Some(by) = compared_by(flags) else {
+    let Some(how) = compared_by(flags) else {
         return OUT_OF_RANGE;
     };
-    match audit_path(alloc, sent, received, by) {
+    match audit(alloc, sent, received, how) {
         Ok(found) => {
             *ended = found.end;
             hand_out_path(&found, rows, arrivals, lost, runs)
@@ -83,14 +86,41 @@ pub fn tracebench_audit_all(
     }
 }
 
-/// By what payloads are compared.
-pub(crate) fn compared_by(flags: u32) -> Option<By>
+/// How the messages of both captures are compared.
+#[derive(Clone, Copy)]
+pub enum AuditBy {
+    /// By their numbers, and by what their payloads are compared by.
+    Numbers(By),
+    /// By what their payloads are compared by alone.
+    Payloads(By),
+}
+
+/// How flags say that messages are compared; `None` where one is not known.
+fn compared_by(flags: u32) -> Option<AuditBy>
     ensures { result ≡ compared_by flags }
 {
-    match flags {
-        0 => Some(By::Bytes),
-        BY_PACKETS => Some(By::Packets),
-        _ => None,
+    if flags == 0 {
+        Some(AuditBy::Numbers(By::Bytes))
+    } else if flags == BY_PACKETS {
+        Some(AuditBy::Numbers(By::Packets))
+    } else if flags == UNNUMBERED {
+        Some(AuditBy::Payloads(By::Bytes))
+    } else if flags == BY_PACKETS + UNNUMBERED {
+        Some(AuditBy::Payloads(By::Packets))
+    } else {
+        None
+    }
+}
+
+/// Audits RECEIVED against SENT, which has these bytes.
+fn audit(alloc: Global, sent: &[u8], received: &[u8], how: AuditBy) -> Result<PathFound, SentFault>
+    ensures found { IfOk result (λ found. IsAudited how sent.now received.now found.rows.items found.arrivals.items
+        found.lost.items found.runs.items found.end) }
+    ensures refused { IfErr result (IsSentFault sent.now) }
+{
+    match how {
+        AuditBy::Numbers(by) => audit_path(alloc, sent, received, by),
+        AuditBy::Payloads(by) => audit_aligned(alloc, sent, received, by),
     }
 }
 
@@ -114,7 +144,7 @@ fn hand_out_path(
 }
 
 /// All is done where so many things fit into each of four arrays.
-pub(crate) fn fitting_status(rows: bool, arrivals: bool, lost: bool, runs: bool) -> u32
+fn fitting_status(rows: bool, arrivals: bool, lost: bool, runs: bool) -> u32
     ensures { result ≡ fitting_status rows arrivals lost runs }
 {
     if rows && arrivals && lost && runs {
@@ -125,7 +155,7 @@ pub(crate) fn fitting_status(rows: bool, arrivals: bool, lost: bool, runs: bool)
 }
 
 /// Writes things to the start of an array, if they fit. Whether they do.
-pub(crate) fn give<T: Copy>(things: &[T], array: &mut [T]) -> bool
+fn give<T: Copy>(things: &[T], array: &mut [T]) -> bool
     ensures fits { result ≡ nat_le (length things.now) (length array.old) }
     ensures given { IsGiven things.now array.old array.new }
 {
@@ -136,7 +166,7 @@ pub(crate) fn give<T: Copy>(things: &[T], array: &mut [T]) -> bool
     true
 }
 
-/// Audits RECEIVED against SENT, which has these bytes.
+/// Audits RECEIVED against SENT, which has these bytes, by the numbers of the messages.
 fn audit_path(alloc: Global, sent: &[u8], received: &[u8], by: By) -> Result<PathFound, SentFault>
     ensures found { IfOk result (λ found. IsAuditedAll by sent.now received.now found.rows.items found.arrivals.items
         found.lost.items found.runs.items found.end) }

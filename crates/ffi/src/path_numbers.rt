@@ -16,6 +16,8 @@ use message::DemuxFault;
 
 /// Payloads are compared by the packets that they unpack to, and not by their bytes.
 pub const BY_PACKETS: u32 = 1;
+/// The numbers of RECEIVED are not looked at: its messages are found and matched by their payloads.
+pub const UNNUMBERED: u32 = 2;
 
 /// The message is none of the others.
 pub const FATE_IN_ORDER: u32 = 0;
@@ -25,10 +27,12 @@ pub const FATE_LATE: u32 = 1;
 pub const FATE_REPEAT: u32 = 2;
 /// SENT has its hart and number with another payload.
 pub const FATE_CHANGED: u32 = 3;
-/// SENT has no message of its hart and number.
+/// SENT has no message of its hart and number; with [`UNNUMBERED`] none of its hart.
 pub const FATE_STRANGER: u32 = 4;
+/// With [`UNNUMBERED`]: it is matched with no message of SENT.
+pub const FATE_EXTRA: u32 = 5;
 
-/// What became of the messages of a hart.
+/// What became of the messages of a hart. What an audit of messages without numbers does not find is 0.
 #[repr(C)]
 #[derive(Clone, Copy)]
 pub struct HartTally {
@@ -36,7 +40,8 @@ pub struct HartTally {
     pub sent: u64,
     /// How many messages of the hart RECEIVED has, strangers among them.
     pub came: u64,
-    /// How many numbers of the hart are lost: no true message of RECEIVED has them.
+    /// How many numbers of the hart are lost: no true message of RECEIVED has them, or with [`UNNUMBERED`] none is
+    /// matched with them.
     pub lost: u64,
     /// How many messages of the hart are repeats.
     pub repeated: u64,
@@ -56,6 +61,8 @@ pub struct HartRowNumbers {
     pub tally: HartTally,
     /// How many messages of the hart are strangers.
     pub strange: u64,
+    /// How many messages of the hart are extra; 0 without [`UNNUMBERED`].
+    pub extra: u64,
     /// In how many longest runs the lost numbers of the hart are.
     pub runs: u64,
     /// How many numbers the longest of these runs has, 0 where none is lost.
@@ -73,13 +80,13 @@ pub struct HartRowNumbers {
 #[repr(C)]
 #[derive(Clone, Copy)]
 pub struct Arrival {
-    /// The message's number.
+    /// The message's number; with [`UNNUMBERED`] that of SENT which it is matched with, or 0.
     pub number: u64,
     /// By how much a late message is late, or how many numbers a message in order skips; 0 for the others.
     pub by: u64,
     /// Where its first byte is in RECEIVED, counted from 0.
     pub offset: u64,
-    /// What became of it: [`FATE_IN_ORDER`] to [`FATE_STRANGER`].
+    /// What became of it: [`FATE_IN_ORDER`] to [`FATE_EXTRA`].
     pub fate: u32,
     /// The message's hart.
     pub hart: u16,
@@ -160,6 +167,7 @@ pub(crate) fn row_reported(row: HartRow) -> HartRowNumbers
     HartRowNumbers {
         tally: tally_reported(row.tally),
         strange: row.strange,
+        extra: 0,
         runs: row.runs,
         longest: row.longest,
         latest: row.latest,

@@ -14,7 +14,7 @@ const BASE: u64 = 0x8000_0000;
 /// steps.
 const NUMBERS: &str =
     "harts hart period mode version format flags number room places rows arrivals lost runs \
-    tail last show steps numbers singles";
+    tail last show steps numbers";
 
 /// The names of bytes.
 const BYTES: &str = "image payload capture sent received log text symbols bytes due";

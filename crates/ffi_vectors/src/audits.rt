@@ -4,9 +4,7 @@ use crate::arguments::Given;
 use crate::fields::{Fields, kept};
 use crate::writing::{put_all, put_list};
 use cases::Case;
-use ffi::{
-    AlignedEnd, AlignedRow, Arrival, ByteRun, HartRowNumbers, LostRun, PathEnd, SentPlace, Single,
-};
+use ffi::{Arrival, ByteRun, HartRowNumbers, LostRun, PathEnd, SentPlace};
 
 /// Of all harts.
 pub(crate) fn audit_all(case: &mut Case<'_>, given: &Given<'_>) {
@@ -30,26 +28,4 @@ pub(crate) fn audit_all(case: &mut Case<'_>, given: &Given<'_>) {
     put_list(case, "arrivals", &arrivals, steps);
     put_list(case, "lost", &lost, steps);
     put_list(case, "runs", &runs, steps);
-}
-
-/// Of all harts by payloads alone.
-pub(crate) fn audit_unnumbered(case: &mut Case<'_>, given: &Given<'_>) {
-    let mut rows = case.filled(kept::<AlignedRow>(), given.room("rows"));
-    let mut singles = case.filled(kept::<Single>(), given.room("singles"));
-    let mut lost = case.filled(kept::<LostRun>(), given.room("lost"));
-    let (mut place, mut last) = (kept::<SentPlace>(), kept::<AlignedEnd>());
-    let (alloc, flags) = (given.alloc, given.low_32("flags"));
-    let (sent, received) = (given.bytes("sent"), given.bytes("received"));
-    let (own, ones, gaps) = (&mut rows, &mut singles, &mut lost);
-    let (refused, end) = (&mut place, &mut last);
-    let status = ffi::tracebench_audit_unnumbered(
-        alloc, sent, received, flags, own, ones, gaps, refused, end,
-    );
-    put_all(case, "status", &[u64::from(status)]);
-    put_all(case, SentPlace::NAMES, &place.record());
-    put_all(case, AlignedEnd::NAMES, &last.record());
-    let steps = given.number("steps") != 0;
-    put_list(case, "rows", &rows, steps);
-    put_list(case, "singles", &singles, steps);
-    put_list(case, "lost", &lost, steps);
 }

@@ -20,7 +20,6 @@ fn call(case: &mut Case<'_>, verb: &str, given: &Given<'_>) {
         "resume" => stepping::resume(case, given),
         "push_both" => stepping::push_both(case, given),
         "audit_all" => audits::audit_all(case, given),
-        "audit_unnumbered" => audits::audit_unnumbered(case, given),
         _ => call_in_rooms(case, verb, given),
     }
 }

@@ -1,9 +1,9 @@
 //! The structs of the library as rows of numbers, with the names of their fields.
 
 use ffi::{
-    AlignedEnd, AlignedRow, Arrival, ByteRun, DecoderNumbers, DumpEnd, EncoderNumbers,
-    EventNumbers, ExplainEnd, HartEnd, HartNumbers, HartRowNumbers, HartTally, HeaderNumbers,
-    LogPlace, LostRun, PacketNumbers, PathEnd, SentPlace, Single, TextEnd,
+    Arrival, ByteRun, DecoderNumbers, EncoderNumbers, EventNumbers, ExplainEnd, HartEnd,
+    HartNumbers, HartRowNumbers, HartTally, HeaderNumbers, LogPlace, LostRun, PacketNumbers,
+    PathEnd, SentPlace, TextEnd,
 };
 
 /// The numbers of a struct, in the order of its names, and then 0.
@@ -321,7 +321,7 @@ impl Fields for Ends {
 
 impl Fields for HartRowNumbers {
     const NAMES: &'static str =
-        "sent came lost repeated late changed whole strange runs longest latest \
+        "sent came lost repeated late changed whole strange extra runs longest latest \
         exchanged exchanged_hart";
 
     fn of(numbers: &Record) -> HartRowNumbers {
@@ -336,11 +336,12 @@ impl Fields for HartRowNumbers {
                 whole: low_32(numbers[6]),
             },
             strange: numbers[7],
-            runs: numbers[8],
-            longest: numbers[9],
-            latest: numbers[10],
-            exchanged: numbers[11],
-            exchanged_hart: numbers[12],
+            extra: numbers[8],
+            runs: numbers[9],
+            longest: numbers[10],
+            latest: numbers[11],
+            exchanged: numbers[12],
+            exchanged_hart: numbers[13],
         }
     }
 
@@ -355,6 +356,7 @@ impl Fields for HartRowNumbers {
             tally.changed,
             u64::from(tally.whole),
             self.strange,
+            self.extra,
             self.runs,
             self.longest,
             self.latest,
@@ -468,104 +470,6 @@ impl Fields for PathEnd {
             u64::from(self.has_sent_header),
             u64::from(self.has_received_header),
             u64::from(self.header_fault),
-            u64::from(self.headers_differ),
-            u64::from(self.has_first),
-            u64::from(self.whole),
-            u64::from(sent.mode),
-            u64::from(sent.period),
-            u64::from(sent.harts),
-            u64::from(received.mode),
-            u64::from(received.period),
-            u64::from(received.harts),
-        ])
-    }
-}
-
-impl Fields for AlignedRow {
-    const NAMES: &'static str = "sent came lost extra runs longest whole";
-
-    fn of(numbers: &Record) -> AlignedRow {
-        AlignedRow {
-            sent: numbers[0],
-            came: numbers[1],
-            lost: numbers[2],
-            extra: numbers[3],
-            runs: numbers[4],
-            longest: numbers[5],
-            whole: low_32(numbers[6]),
-        }
-    }
-
-    fn record(&self) -> Record {
-        padded(&[
-            self.sent,
-            self.came,
-            self.lost,
-            self.extra,
-            self.runs,
-            self.longest,
-            u64::from(self.whole),
-        ])
-    }
-}
-
-impl Fields for Single {
-    const NAMES: &'static str = "place hart fate number skips";
-
-    fn of(numbers: &Record) -> Single {
-        Single {
-            place: numbers[0],
-            hart: low_16(numbers[1]),
-            fate: low_32(numbers[2]),
-            number: numbers[3],
-            skips: numbers[4],
-        }
-    }
-
-    fn record(&self) -> Record {
-        let (hart, fate) = (u64::from(self.hart), u64::from(self.fate));
-        padded(&[self.place, hart, fate, self.number, self.skips])
-    }
-}
-
-impl Fields for AlignedEnd {
-    const NAMES: &'static str = "harts messages singles lost_runs strangers first has_sent_header \
-        has_received_header header_fault fault headers_differ has_first whole sent_mode sent_period sent_harts \
-        received_mode received_period received_harts";
-
-    fn of(numbers: &Record) -> AlignedEnd {
-        AlignedEnd {
-            harts: numbers[0],
-            messages: numbers[1],
-            singles: numbers[2],
-            lost_runs: numbers[3],
-            strangers: numbers[4],
-            first: numbers[5],
-            has_sent_header: low_32(numbers[6]),
-            has_received_header: low_32(numbers[7]),
-            header_fault: low_32(numbers[8]),
-            fault: low_32(numbers[9]),
-            headers_differ: low_32(numbers[10]),
-            has_first: low_32(numbers[11]),
-            whole: low_32(numbers[12]),
-            sent_header: HeaderNumbers::of(&after(13, numbers)),
-            received_header: HeaderNumbers::of(&after(16, numbers)),
-        }
-    }
-
-    fn record(&self) -> Record {
-        let (sent, received) = (&self.sent_header, &self.received_header);
-        padded(&[
-            self.harts,
-            self.messages,
-            self.singles,
-            self.lost_runs,
-            self.strangers,
-            self.first,
-            u64::from(self.has_sent_header),
-            u64::from(self.has_received_header),
-            u64::from(self.header_fault),
-            u64::from(self.fault),
             u64::from(self.headers_differ),
             u64::from(self.has_first),
             u64::from(self.whole),

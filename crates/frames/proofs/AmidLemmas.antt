@@ -1,6 +1,6 @@
 -- Messages that were sent are found each at its place.
-use Rattle.std.proofs.Common.{◌≡◌, ◌⊎◌, ◌<◌, ◌≤◌, ◌+◌, ◌++◌, ◌||◌, ℕ, zero, suc, All, Bool, true, false, List, [], ◌∷◌}
-use Rattle.std.proofs.Common.{drop, length, refl, ap, ap₂, sym, subst, ◌∙◌, arith, inl, inr, drop_at, append-nil}
+use Rattle.std.proofs.Common.{◌≡◌, ◌⊎◌, ◌+◌, ◌++◌, ℕ, All, true, false, List, [], ◌∷◌}
+use Rattle.std.proofs.Common.{drop, length, refl, ap, ap₂, sym, ◌∙◌, arith, inl, inr, drop_at, append-nil}
 use Rattle.std.proofs.lemmas.Bool.{and_from, and_left}
 use Rattle.std.proofs.lemmas.List.{length-append}
 use Rattle.std.proofs.lemmas.List.Elements.{All-head, All-tail}
@@ -17,8 +17,8 @@ use Rattle.frames.proofs.TakenLemmas.{or_at_left, or_neither}
 use Rattle.frames.specs.Amid.{IsSentMessage, NoneBegins, NoneBeginsIn}
 use Rattle.frames.specs.Passages.{Sees, spans_from}
 use Rattle.frames.proofs.KnownLemmas.{first_by_number}
-use Rattle.frames.specs.GuidedTaken.{KnowsNone, after, ends_or_begins, goes_on, is_kept, is_known_at, is_same, is_sent_at}
-use Rattle.frames.specs.GuidedTaken.{is_taken_anywhere, is_taken_first}
+use Rattle.frames.specs.GuidedTaken.{KnowsNone, after, ends_or_begins, goes_on, is_kept, is_known_at, is_same}
+use Rattle.frames.specs.GuidedTaken.{is_sent_at, is_taken_anywhere, is_taken_first}
 use Rattle.frames.specs.Taken.{is_sure}
 use Rattle.frames.proofs.PassageLemmas.{Ends, anywhere-taken, spans-frame, spans-run}
 

@@ -1,5 +1,5 @@
 -- What spans have, with one span more.
-use Rattle.std.proofs.Common.{◌≡◌, ◌≤◌, ◌+◌, ℕ, List, [], ◌∷◌, ◌++◌, refl, ap, arith}
+use Rattle.std.proofs.Common.{◌≡◌, ◌≤◌, ◌+◌, List, [], ◌∷◌, ◌++◌, refl, ap, arith}
 use Rattle.message.specs.declared.message.Message.{Message}
 use Rattle.frames.specs.Counted.{bytes_in, messages_in, span_size}
 use Rattle.frames.specs.declared.span.Span.{Span}

@@ -1,5 +1,6 @@
 -- The frame that bytes begin with.
-use Rattle.std.proofs.Common.{◌≡◌, ◌↔◌, ◌<◌, ◌≤◌, ◌+◌, ◌==◌, if◌then◌else◌, None, Some, Ok, ◌++◌, ℕ, Bool, true, false, not, nat_lt, List}
+use Rattle.std.proofs.Common.{◌≡◌, ◌↔◌, ◌<◌, ◌≤◌, ◌+◌, ◌==◌, if◌then◌else◌, None, Some, Ok, ◌++◌, ℕ, Bool, true, false}
+use Rattle.std.proofs.Common.{not, nat_lt, List}
 use Rattle.std.proofs.Common.{IsTrue, length, take, drop, refl, sym, ap, ap₂, subst, ◌∙◌, arith, length-take-le}
 use Rattle.std.proofs.lemmas.Bool.{and_parts, and_from, ne_eqb, ltb-true, ltb-false, lt-ltb, le-ltb}
 use Rattle.std.proofs.lemmas.List.{drop-take, length-append, length-drop}
@@ -14,8 +15,8 @@ use Rattle.message.specs.declared.message.Message.{Message}
 use Rattle.message.proofs.Cuts.{message_of-ranges}
 use Rattle.message.proofs.Fronts.{AreBytes-take, Stands, first_message-stands}
 use Rattle.message.proofs.Heads.{AreBytes-drop}
-use Rattle.frames.specs.Frame.{BeginsFrame, BeginsMessage, IsFrame, message_in, payload_in, frame_in, frame_size, hart_in, is_complete, is_frame, length_in}
-use Rattle.frames.specs.Frame.{number_in, end_of_frames}
+use Rattle.frames.specs.Frame.{BeginsFrame, BeginsMessage, IsFrame, message_in, payload_in, frame_in, frame_size}
+use Rattle.frames.specs.Frame.{hart_in, is_complete, is_frame, length_in, number_in, end_of_frames}
 
 not_false : (b : Bool) → not b ≡ true → b ≡ false
 not_false false e = refl
@@ -30,7 +31,8 @@ pub record Complete (bytes : List ℕ) : Type 0 where
 pub complete : (bytes : List ℕ) → is_complete bytes ≡ true → Complete bytes
 complete bytes e =
     let parts = and_parts (nat_lt 0 (length_in bytes)) _ e in
-    let others = and_parts (not (nat_lt 18 (length_in bytes))) (not (nat_lt (length bytes) (frame_size bytes))) parts.1 in
+    let others = and_parts (not (nat_lt 18 (length_in bytes))) (not (nat_lt (length bytes) (frame_size bytes))) parts.1
+    in
     record {
       some = ltb-true 0 (length_in bytes) parts.0;
       few = ltb-false 18 (length_in bytes) (not_false _ others.0);

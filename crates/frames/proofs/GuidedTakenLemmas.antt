@@ -1,5 +1,5 @@
 -- The message that is taken.
-use Rattle.std.proofs.Common.{◌≡◌, ◌≤◌, ◌+◌, ◌∙◌, Bool, true, false, if◌then◌else◌, ℕ, List, ◌∷◌, Option, Some, None, length, drop}
+use Rattle.std.proofs.Common.{◌≡◌, ◌≤◌, ◌+◌, Bool, true, false, if◌then◌else◌, ℕ, List, ◌∷◌, Some, None, length, drop}
 use Rattle.std.proofs.Common.{refl, ap, arith, length-take-le, sym}
 use Rattle.std.proofs.lemmas.List.{length-drop}
 use Rattle.frames.proofs.FrameLemmas.{Complete, complete}

@@ -16,7 +16,8 @@ AreBelow known [] = Unit {0}
 AreBelow known (Frame place message ∷ spans) = (message.hart < known) × AreBelow known spans
 AreBelow known (Bytes place count ∷ spans) = AreBelow known spans
 
-below_with_byte : (known offset : ℕ) (spans : List Span) → AreBelow known spans → AreBelow known (with_byte offset spans)
+below_with_byte : (known offset : ℕ) (spans : List Span) → AreBelow known spans
+    → AreBelow known (with_byte offset spans)
 below_with_byte known offset [] below = tt
 below_with_byte known offset (Frame place message ∷ spans) below = below
 below_with_byte known offset (Bytes place count ∷ spans) below = below

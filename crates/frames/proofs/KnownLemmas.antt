@@ -1,11 +1,11 @@
 -- Where no message is known by its payload alone, every one is clear, and numbers decide.
-use Rattle.std.proofs.Common.{◌≡◌, ◌&&◌, ◌||◌, ℕ, Bool, true, false, not, List, drop, refl, ap, sym, ◌∙◌}
+use Rattle.std.proofs.Common.{◌≡◌, ◌&&◌, ◌||◌, ℕ, Bool, true, false, not, List, drop, refl, ap}
 use Rattle.std.proofs.lemmas.Bool.{and_left, and_right}
 use Rattle.message.proofs.Answering.{not_both}
 use Rattle.frames.specs.Frame.{frame_in, is_complete}
 use Rattle.frames.specs.GuidedTaken.{KnowsNone, Sees, after, goes_on, is_clear, is_counted_at, is_known, is_known_at}
 use Rattle.frames.specs.GuidedTaken.{is_sent_at, is_taken_first}
-use Rattle.frames.specs.Taken.{has_firm_inside, is_firm, is_sure}
+use Rattle.frames.specs.Taken.{is_sure}
 use Rattle.frames.proofs.TakenLemmas.{inside-none}
 
 none_known : (sees : Sees) (xs : List ℕ) → KnowsNone sees → is_known_at sees xs ≡ false

@@ -1,8 +1,8 @@
 -- The first span of bytes, and the spans after it.
-use Rattle.std.proofs.Common.{◌≡◌, ◌⊎◌, ◌<◌, ◌≤◌, ◌+◌, ◌-◌, ◌++◌, ℕ, zero, suc, Bool, true, false, if◌then◌else◌, List, [], ◌∷◌}
-use Rattle.std.proofs.Common.{drop, length, min, refl, ap, ap₂, sym, ◌∙◌, arith, inl, inr}
+use Rattle.std.proofs.Common.{◌≡◌, ◌⊎◌, ◌<◌, ◌≤◌, ◌+◌, ◌-◌, ℕ, zero, suc, Bool, true, false, if◌then◌else◌, List, []}
+use Rattle.std.proofs.Common.{◌∷◌, drop, length, min, refl, ap, ap₂, sym, ◌∙◌, arith, inl, inr}
 use Rattle.std.proofs.Math.Nat.{min-eq_left, min-eq_right}
-use Rattle.std.proofs.lemmas.Bool.{and_from, and_parts, cases_lt}
+use Rattle.std.proofs.lemmas.Bool.{cases_lt}
 use Rattle.std.proofs.lemmas.List.{drop-drop, length-drop, nil_from_length}
 use Rattle.frames.proofs.TakenLemmas.{or_at_left}
 use Rattle.frames.specs.Frame.{frame_in, frame_size}
@@ -75,8 +75,8 @@ alone sees offset (x ∷ bytes) (inr sent) =
     let again = spans-frame sees false (offset + 1) xs (anywhere-taken sees false xs sent) in
     ap (with_byte offset) here ∙ ap (λ (l : List Span). Bytes offset 1 ∷ l) (sym again)
 
--- Bytes up to the next message that is taken anywhere, or to the end, are the first span, where no message that begins them is
--- taken.
+-- Bytes up to the next message that is taken anywhere, or to the end, are the first span, where no message that begins
+-- them is taken.
 pub spans-run : (sees : Sees) (astray : Bool) (count offset : ℕ) (xs : List ℕ)
     → 1 ≤ count → count ≤ length xs → is_taken sees astray xs ≡ false
     → ((k : ℕ) → 1 ≤ k → k < count → is_taken_anywhere sees (drop k xs) ≡ false) → Ends sees count xs

@@ -1,7 +1,7 @@
 -- Which known messages are passed over, place by place.
-use Rattle.std.proofs.Common.{◌≡◌, ◌⊎◌, ◌<◌, ◌≤◌, ◌+◌, ◌-◌, ◌&&◌, ◌||◌, ℕ, zero, suc, Bool, true, false, not, List, [], ◌∷◌}
-use Rattle.std.proofs.Common.{drop, length, refl, ap, sym, subst, ◌∙◌, arith, inl, inr, length-take-le}
-use Rattle.std.proofs.lemmas.Bool.{and_cases, and_left, and_parts, and_right, cases_lt, or_cases, or_parts}
+use Rattle.std.proofs.Common.{◌≡◌, ◌⊎◌, ◌<◌, ◌≤◌, ◌+◌, ◌-◌, ◌||◌, ℕ, zero, suc, Bool, true, false, not, List, [], ◌∷◌}
+use Rattle.std.proofs.Common.{drop, length, refl, ap, sym, subst, arith, inl, inr, length-take-le}
+use Rattle.std.proofs.lemmas.Bool.{and_cases, and_parts, cases_lt, or_cases, or_parts}
 use Rattle.std.proofs.lemmas.List.{length-drop}
 use Rattle.message.proofs.Answering.{not_both}
 use Rattle.message.specs.Capture.{message_bytes}
@@ -10,7 +10,7 @@ use Rattle.frames.proofs.FrameLemmas.{complete}
 use Rattle.frames.proofs.PassageLemmas.{by_first}
 use Rattle.frames.proofs.TakenLemmas.{inside-here}
 use Rattle.frames.specs.Frame.{frame_in, frame_size, is_complete, length_in}
-use Rattle.frames.specs.GuidedTaken.{Sees, is_clear, is_kept, is_known, is_known_at, is_same, is_sent_at, is_taken}
+use Rattle.frames.specs.GuidedTaken.{Sees, is_clear, is_kept, is_known_at, is_same, is_sent_at, is_taken}
 use Rattle.frames.specs.GuidedTaken.{is_taken_anywhere}
 use Rattle.frames.specs.Passages.{spans_after}
 use Rattle.frames.specs.PassedOver.{FirmArePassedOver, IsInside, IsInsideFirm, IsTakenAt, KnownArePassedOver}
@@ -105,14 +105,16 @@ known_after sees astray zero offset zero (b ∷ bytes) past less known =
     here false none = inr (inr (not_taken sees astray (b ∷ bytes) none known))
 known_after sees astray zero offset (suc k) (b ∷ bytes) past less known =
     by
-    (λ beyond. known_after sees false (frame_size (b ∷ bytes) - 1) (offset + 1) k bytes beyond (omega (arith, less)) known)
+    (λ beyond. known_after sees false (frame_size (b ∷ bytes) - 1) (offset + 1) k bytes beyond
+    (omega (arith, less)) known)
     (known_after sees true zero (offset + 1) k bytes (omega arith) (omega (arith, less)) known)
     (is_taken sees astray (b ∷ bytes)) refl
   where
     place : offset + 1 + k ≡ offset + suc k
     place = omega arith
 
-    later : Cases sees (offset + 1 + k) (drop k bytes) (spans_after sees false (frame_size (b ∷ bytes) - 1) (offset + 1) bytes)
+    later : Cases sees (offset + 1 + k) (drop k bytes)
+        (spans_after sees false (frame_size (b ∷ bytes) - 1) (offset + 1) bytes)
         → Cases sees (offset + suc k) (drop k bytes) (by_first sees offset b bytes true)
     later (inl taken) =
         inl (inr (subst (λ (at : ℕ). IsTakenAt at

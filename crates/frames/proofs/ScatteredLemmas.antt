@@ -1,5 +1,6 @@
 -- Messages that were written are found each at its place.
-use Rattle.std.proofs.Common.{◌≡◌, ◌⊎◌, ◌<◌, ◌≤◌, ◌+◌, ◌++◌, ℕ, zero, suc, All, Bool, true, false, Contains, List, [], ◌∷◌}
+use Rattle.std.proofs.Common.{◌≡◌, ◌⊎◌, ◌<◌, ◌≤◌, ◌+◌, ◌++◌, ℕ, zero, suc, All, Bool, true, false, Contains, List, []}
+use Rattle.std.proofs.Common.{◌∷◌}
 use Rattle.std.proofs.Common.{not, drop, length, refl, ap, ap₂, sym, subst, ◌∙◌, arith, inl, inr, drop_at, append-nil}
 use Rattle.std.proofs.lemmas.Bool.{and_from, and_left}
 use Rattle.std.proofs.lemmas.List.{drop-drop, length-append}
@@ -23,7 +24,8 @@ is_false false not_true = refl
 is_false true not_true = absurd (not_true refl)
 
 -- What follows the bytes of a message.
-pub after_message : (m : Message) (rest : List ℕ) → drop (frame_size (message_bytes m ++ rest)) (message_bytes m ++ rest) ≡ rest
+pub after_message : (m : Message) (rest : List ℕ)
+    → drop (frame_size (message_bytes m ++ rest)) (message_bytes m ++ rest) ≡ rest
 after_message m rest =
     let size : length (message_bytes m) ≡ 11 + length m.payload = omega arith in
     drop_at (message_bytes m) rest (11 + length m.payload) size
@@ -91,11 +93,13 @@ later : (offset : ℕ) (ss : List Scattered) (x : ℕ) → Contains (offsets_fro
 later offset [] x (k, less, at) = absurd (omega (arith, less))
 later offset (s ∷ more) x (zero, less, at) = omega (arith, at)
 later offset (s ∷ more) x (suc k, less, at) =
-    let rest = later (offset + length s.before + length (message_bytes s.message)) more x (k, omega (arith, less), at) in
+    let rest = later (offset + length s.before + length (message_bytes s.message)) more x
+    (k, omega (arith, less), at) in
     omega (arith, rest)
 
 -- An offset is that of the first message, or one of the others.
-first_or_later : (offset : ℕ) (s : Scattered) (more : List Scattered) (x : ℕ) → Contains (offsets_from offset (s ∷ more)) x
+first_or_later : (offset : ℕ) (s : Scattered) (more : List Scattered) (x : ℕ)
+    → Contains (offsets_from offset (s ∷ more)) x
     → (x ≡ offset + length s.before)
     ⊎ Contains (offsets_from (offset + length s.before + length (message_bytes s.message)) more) x
 first_or_later offset s more x (zero, less, at) = inl (sym at)
@@ -131,7 +135,8 @@ scattered known offset (s ∷ more) last all alone =
     let place = offset + length s.before in
     let next = place + length (message_bytes m) in
     let before : (k : ℕ) → k < length s.before → is_taken known (drop k (s.before ++ tail)) ≡ false =
-    λ k less. none_taken known (drop k (s.before ++ tail)) (λ frame. too_early k less (first_or_later offset s more (offset + k) (alone k frame))) in
+    λ k less. none_taken known (drop k (s.before ++ tail))
+    (λ frame. too_early k less (first_or_later offset s more (offset + k) (alone k frame))) in
     let inside : (k : ℕ) → 1 ≤ k → k < frame_size tail → is_firm (is_frame known) (drop k tail) ≡ false =
     λ k some less. and_left (is_frame known (drop k tail)) _
     (is_false (is_frame known (drop k tail))
@@ -139,7 +144,8 @@ scattered known offset (s ∷ more) last all alone =
     (alone (length s.before + k) (ap (is_frame known) (drop_after k s.before tail) ∙ frame))))) in
     let frame = is_frame-message known m rest is in
     let taken : is_taken known tail ≡ true =
-    and_from _ _ frame (or_at_right (is_firm (is_frame known) tail) _ (ap not (inside-none (is_frame known) tail inside))) in
+    and_from _ _ frame (or_at_right (is_firm (is_frame known) tail) _
+    (ap not (inside-none (is_frame known) tail inside))) in
     let apart : NoOtherFrame known next rest (offsets_from next more) =
     λ k frame. beyond k (first_or_later offset s more (offset + (length s.before + (length (message_bytes m) + k)))
     (alone (length s.before + (length (message_bytes m) + k))
@@ -167,7 +173,8 @@ scattered known offset (s ∷ more) last all alone =
     amid k some less (inl same) = omega (arith, some, same)
     amid k some less (inr among) =
         let far =
-        later (offset + length s.before + length (message_bytes s.message)) more (offset + (length s.before + k)) among in
+        later (offset + length s.before + length (message_bytes s.message)) more
+        (offset + (length s.before + k)) among in
         omega (arith, less, far)
 
     beyond : (k : ℕ)

@@ -16,7 +16,8 @@ use Rattle.message.specs.declared.range.HartRange.{HartRange}
 use Rattle.frames.specs.Search.{chosen, is_chosen, is_damaged, span_line, spans_text}
 
 -- The lines of some first spans were written, and the flag says whether one of these is damaged.
-pub record HasWritten (symbols : Option (List ℕ)) (harts : HartRange) (mode : Mode) (all left : List Span) (damaged : Bool) (old new : Option (List ℕ)) : Type 0 where
+pub record HasWritten (symbols : Option (List ℕ)) (harts : HartRange) (mode : Mode) (all left : List Span)
+    (damaged : Bool) (old new : Option (List ℕ)) : Type 0 where
   pub text : List ℕ
   pub parted : spans_text symbols mode (chosen harts all) ≡ text ++ spans_text symbols mode (chosen harts left)
   pub flag : list_any is_damaged (chosen harts all) ≡ (damaged || list_any is_damaged (chosen harts left))
@@ -42,12 +43,14 @@ pub one_chosen : (harts : HartRange) (span : Span) → is_chosen harts span ≡ 
 one_chosen harts span is = rw is refl
 
 -- None is written.
-pub none_written : (symbols : Option (List ℕ)) (harts : HartRange) (mode : Mode) (all : List Span) (old : Option (List ℕ))
+pub none_written : (symbols : Option (List ℕ)) (harts : HartRange) (mode : Mode) (all : List Span)
+    (old : Option (List ℕ))
     → HasWritten symbols harts mode all all false old old
 none_written symbols harts mode all old = record { text = []; parted = refl; flag = refl; appended = Appends-nil old }
 
 -- One more is written.
-pub one_written : (symbols : Option (List ℕ)) (harts : HartRange) (mode : Mode) (all left : List Span) (span : Span) (damaged : Bool)
+pub one_written : (symbols : Option (List ℕ)) (harts : HartRange) (mode : Mode) (all left : List Span) (span : Span)
+    (damaged : Bool)
     (old mid new : Option (List ℕ))
     → HasWritten symbols harts mode all (span ∷ left) damaged old mid
     → Appends mid new (spans_text symbols mode (chosen harts (span ∷ [])))
@@ -65,7 +68,8 @@ one_written symbols harts mode all left span damaged old mid new so_far line =
     }
 
 -- A beginning of the line of the next is written.
-pub next_begun : (symbols : Option (List ℕ)) (harts : HartRange) (mode : Mode) (all left : List Span) (span : Span) (damaged : Bool)
+pub next_begun : (symbols : Option (List ℕ)) (harts : HartRange) (mode : Mode) (all left : List Span) (span : Span)
+    (damaged : Bool)
     (old mid new : Option (List ℕ))
     → HasWritten symbols harts mode all (span ∷ left) damaged old mid
     → AppendsBeginning (spans_text symbols mode (chosen harts (span ∷ []))) mid new
@@ -73,5 +77,6 @@ pub next_begun : (symbols : Option (List ℕ)) (harts : HartRange) (mode : Mode)
 next_begun symbols harts mode all left span damaged old mid new so_far begun =
     subst (λ (l : List ℕ). AppendsBeginning l old new)
     (sym (so_far.parted ∙ ap (λ (l : List ℕ). so_far.text ++ l) (text_joined symbols harts mode span left)))
-    (begun_between so_far.text (spans_text symbols mode (chosen harts (span ∷ []))) (spans_text symbols mode (chosen harts left))
+    (begun_between so_far.text (spans_text symbols mode (chosen harts (span ∷ [])))
+    (spans_text symbols mode (chosen harts left))
     old mid new so_far.appended begun)

@@ -1,5 +1,5 @@
 -- Messages and runs of bytes where they are in the bytes.
-use Rattle.std.specs.Prelude.{ℕ, ◌≤◌, ⊤, length}
+use Rattle.std.specs.Prelude.{◌≤◌, ⊤, length}
 use Rattle.frames.specs.declared.span.Span.{Span}
 use Rattle.frames.specs.declared.span.Span.TheVariants as span
 use Rattle.message.specs.declared.message.Message.{Message}

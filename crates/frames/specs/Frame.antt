@@ -1,6 +1,6 @@
 -- Messages that are known again, whatever bytes are around them, this project's own format.
-use Rattle.std.specs.Prelude.{ℕ, ◌≡◌, ◌<◌, ◌+◌, ◌^◌, ◌++◌, ◌&&◌, not, nat_lt, Bool, if◌then◌else◌, List, Option, Some, None}
-use Rattle.std.specs.Prelude.{length, take, drop, slice_index}
+use Rattle.std.specs.Prelude.{ℕ, ◌≡◌, ◌<◌, ◌+◌, ◌^◌, ◌++◌, ◌&&◌, not, nat_lt, Bool, if◌then◌else◌, List, Option, Some}
+use Rattle.std.specs.Prelude.{None, length, take, drop, slice_index}
 use Rattle.byteorder.specs.Endian.{little_number}
 use Rattle.payload.specs.Limits.{most_bytes}
 use Rattle.message.specs.Capture.{message_bytes}

@@ -61,8 +61,9 @@ abbrev pub goes_on : List ℕ → Bool
 goes_on [] = true
 goes_on (b ∷ bytes) = is_complete (b ∷ bytes) && ends_or_begins (after (b ∷ bytes))
 
--- A message begins the bytes that is taken wherever it is: it was sent, or it is known and sure. A known message is firm
--- where after it the bytes end or another known one begins. It is sure where it is firm, or no firm one begins inside it.
+-- A message begins the bytes that is taken wherever it is: it was sent, or it is known and sure. A known message is
+-- firm where after it the bytes end or another known one begins. It is sure where it is firm, or no firm one begins
+-- inside it.
 abbrev pub is_taken_anywhere : Sees → List ℕ → Bool
 is_taken_anywhere sees bytes = is_sent_at sees bytes || is_sure (is_known_at sees) bytes
 

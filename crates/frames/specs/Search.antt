@@ -59,8 +59,8 @@ stop_of None = None
 stop_of (Some why) = Some (0, why)
 
 -- The text is what a search of a capture finds of these harts, with names by these symbols, if they are given. The flag
--- says whether there are bytes of no frame or a bad payload of these harts, and the fault is that of a header that is cut
--- short or bad.
+-- says whether there are bytes of no frame or a bad payload of these harts, and the fault is that of a header that is
+-- cut short or bad.
 pub record IsSearchedOf (symbols : Option (List ℕ)) (harts : HartRange) (bytes : List ℕ) (bad : Bool)
     (fault : Option (ℕ × MessageFault)) (text : List ℕ) : Type 0 where
   pub header : Option Header

@@ -16,7 +16,8 @@ abbrev pub IsStart : List ℕ → Option Header → Option MessageFault → Type
 IsStart bytes header None = (rest : List ℕ) × BeginsWith header bytes rest
 IsStart bytes header (Some why) = (header ≡ None) × BeginsNoHeader bytes why
 
--- The harts of frames are below this: below the header's count, or without a header below the most harts of any capture.
+-- The harts of frames are below this: below the header's count, or without a header below the most harts of any
+-- capture.
 abbrev pub known_harts : Option Header → ℕ
 known_harts None = most_harts Two
 known_harts (Some header) = header.harts

@@ -1,21 +1,39 @@
 -- What is held of the messages of SENT that were read, by all of them.
-use Rattle.std.proofs.Common.{◌≡◌, ◌⊎◌, inl, inr, ℕ, suc, ◌+◌, ◌<◌, ◌≤◌, List, [], ◌∷◌, ◌++◌, Some, None, drop, length, slice_get}
-use Rattle.std.proofs.Common.{take, sym, ap, subst, ◌∙◌, arith}
-use Rattle.std.proofs.lemmas.Bool.{cases_lt}
-use Rattle.std.proofs.lemmas.List.{drop_all, take-append-drop, take_all}
+use Rattle.std.proofs.Common.{◌≡◌, ◌⊎◌, inl, inr, ℕ, zero, suc, ◌+◌, ◌-◌, ◌^◌, ◌<◌, ◌≤◌, true, ltb, not, ◌&&◌, List, [], ◌∷◌, ◌++◌, Some, None}
+use Rattle.std.proofs.Common.{drop, length, option_map, slice_get, take, sym, ap, subst, ◌∙◌, arith}
+use Rattle.std.proofs.lemmas.Bool.{and_parts, cases_lt, ltb-true}
+use Rattle.std.proofs.lemmas.List.{append-nil, append_assoc, drop_all, length-take, take-append-drop, take_all}
 use Rattle.std.proofs.lemmas.Option.{slice_get_within}
 use Rattle.message.proofs.Elements.{slice_get-some}
+use Rattle.message.specs.OfHart.{of_hart}
+use Rattle.message.specs.declared.fault.DemuxFault.{DemuxFault}
 use Rattle.message.specs.declared.message.Message.{Message}
 use Rattle.auditing.specs.Sent.{AreInTurn, misplaced}
-use Rattle.live.specs.Following.{Audited, IsAudited, IsCut, IsLooked, Reads}
+use Rattle.live.specs.Following.{AllWanted, Audited, BeginsMisplaced, IsAudited, IsCut, IsLookFault, IsLooked, Reads}
 use Rattle.live.specs.Holding.{Holding}
-use Rattle.live.specs.Holds.{Holds}
+use Rattle.live.specs.Holds.{Holds, IsReadFault, is_wanted}
 use Rattle.live.specs.View.{standing_of}
+use Rattle.live.specs.declared.fault.LookFault.TheVariants as look
+use Rattle.live.specs.declared.fault.ReadFault.{ReadFault}
+use Rattle.live.specs.declared.fault.ReadFault.TheVariants as fault
+use Rattle.live.specs.steps.Reading.{refusal_by}
 use Rattle.live.proofs.Passing.{drop_from, take_to}
+use Rattle.live.proofs.Reading.{not_last, placed_if, why_refused}
 
 -- One more.
 next_count : (count : ℕ) → suc count ≡ count + 1
 next_count count = omega arith
+
+-- A message among those that are each the next one of its hart.
+placed_at : (harts : ℕ) (before messages : List Message) → AreInTurn harts before messages → (k : ℕ) (message : Message)
+    → slice_get messages k ≡ Some message → misplaced harts (before ++ take k messages) message ≡ None
+placed_at harts before [] turn k message is = cc
+placed_at harts before (first ∷ messages) turn zero message is =
+    let same : first ≡ message = cc in
+    ap (λ l. misplaced harts l message) (append-nil before) ∙ ap (misplaced harts before) (sym same) ∙ turn.0
+placed_at harts before (first ∷ messages) turn (suc k) message is =
+    ap (λ l. misplaced harts l message) (sym (append_assoc before (first ∷ []) (take k messages)))
+    ∙ placed_at harts (before ++ first ∷ []) messages turn.1 k message is
 
 module _ (all : Audited) (right : IsAudited all) (read : ℕ) (came : List Message) (front : ℕ) (own : Holding)
     (left : List Message) (reads : Reads all read came front own left) where
@@ -80,23 +98,112 @@ module _ (all : Audited) (right : IsAudited all) (read : ℕ) (came : List Messa
     window = same_window ∙ reads.window;
   }
 
+  -- A message that is refused is what follows SENT, or has the last number.
+  pub refused_next : (message : Message) (after : List Message) → left ≡ message ∷ after → (why : ReadFault)
+      → refusal_by (slice_get own.harts message.hart) message.number ≡ Some why → IsLookFault all read (look.Sent why)
+  refused_next message after is why refusal =
+      by_cause (why_refused some came front own reads.holds message why refusal)
+    where
+      misplaced_one : (cause : DemuxFault) → misplaced (length own.harts) some message ≡ Some cause
+          → (read < length all.sent) ⊎ (length all.sent ≤ read)
+          → (read ≡ length all.sent) × BeginsMisplaced all.harts all.sent all.rest cause
+      misplaced_one cause at (inl less) =
+          let found = slice_get-some all.sent read less in
+          let same : message ∷ after ≡ found.0 ∷ (drop (suc read) all.sent ++ all.rest) =
+          sym is ∙ reads.remains ∙ ap (λ l. l ++ all.rest) (drop_from all.sent read found.0 found.1) in
+          let first : found.0 ≡ message = cc in
+          let never : None ≡ Some cause =
+          sym (placed_at all.harts [] all.sent right.in_turn read found.0 found.1)
+          ∙ ap (misplaced all.harts some) first
+          ∙ ap (λ n. misplaced n some message) (sym reads.harts)
+          ∙ at in cc
+      misplaced_one cause at (inr past) =
+          let same : all.rest ≡ message ∷ after =
+          ap (λ l. l ++ all.rest) (sym (drop_all read all.sent past)) ∙ sym reads.remains ∙ is in (
+            (let within = reads.within in omega (arith, within, past)),
+            subst (λ l. BeginsMisplaced all.harts all.sent l cause) (sym same)
+                (ap (λ l. misplaced all.harts l message) (sym (take_all read all.sent past))
+                ∙ ap (λ n. misplaced n some message) (sym reads.harts) ∙ at),
+          )
+
+      by_cause : ((cause : DemuxFault) × (why ≡ fault.Misplaced cause) × (misplaced (length own.harts) some message ≡ Some cause))
+          ⊎ ((why ≡ fault.Full) × (message.number ≡ 2 ^ 64 - 1) × (misplaced (length own.harts) some message ≡ None))
+          → IsLookFault all read (look.Sent why)
+      by_cause (inl one) =
+          subst (λ w. IsLookFault all read (look.Sent w)) (sym one.1)
+          (misplaced_one one.0 one.2 (cases_lt read (length all.sent)))
+      by_cause (inr last) =
+          subst (λ w. IsLookFault all read (look.Sent w)) (sym last.0)
+          (ap (option_map (λ (m : Message). m.number))
+          (next_sent message after is (ap (λ n. misplaced n some message) (sym reads.harts) ∙ last.2)).0
+          ∙ ap Some last.1)
+
+  -- A message that is not refused is read, where there is a place.
+  pub never_refused : (message : Message) (why : ReadFault) → read < front + all.window
+      → refusal_by (slice_get own.harts message.hart) message.number ≡ None
+      → IsReadFault (length own.harts) own.window some front message why → ⊥
+  never_refused message fault.Full place none (inl full) =
+      let count = length-take read all.sent in
+      let within = reads.within in
+      let window = reads.window in
+      omega (arith, place, full, count, within, window)
+  never_refused message fault.Full place none (inr last) = not_last some came front own reads.holds message none last.0
+  never_refused message (fault.Misplaced why) place none misplaced_is =
+      let never : None ≡ Some why = sym (placed_if some came front own reads.holds message none) ∙ misplaced_is.0 in cc
+
+  -- What is wanted has a place.
+  pub wanted_place : (hart number : ℕ) → is_wanted (length own.harts) own.window some front hart number ≡ true
+      → read < front + all.window
+  wanted_place hart number is =
+      let parts = and_parts (ltb hart (length own.harts))
+      (not (ltb number (length (of_hart hart some)))
+      && ltb (number - length (of_hart hart some)) (front + own.window - length some)) is in
+      let near = and_parts (not (ltb number (length (of_hart hart some))))
+      (ltb (number - length (of_hart hart some)) (front + own.window - length some)) parts.1 in
+      let less = ltb-true (number - length (of_hart hart some)) (front + own.window - length some) near.1 in
+      let count = length-take read all.sent in
+      let within = reads.within in
+      let window = reads.window in
+      omega (arith, less, count, within, window)
+
+  -- One more message was wanted.
+  pub wanted_more : (first hart number : ℕ) → AllWanted all first read front hart number
+      → is_wanted (length own.harts) own.window some front hart number ≡ true
+      → AllWanted all first (read + 1) front hart number
+  wanted_more first hart number before is k from below = go (cases_lt k read)
+    where
+      go : (k < read) ⊎ (read ≤ k) → is_wanted all.harts all.window (take k all.sent) front hart number ≡ true
+      go (inl less) = before k from less
+      go (inr past) =
+          ap (λ n. is_wanted all.harts all.window (take n all.sent) front hart number)
+          (let same : k ≡ read = omega (arith, past, below) in same)
+          ∙ ap (λ n. is_wanted n all.window some front hart number) (sym reads.harts)
+          ∙ ap (λ w. is_wanted (length own.harts) w some front hart number) (sym reads.window)
+          ∙ is
+
   -- Where SENT is at its end, nothing follows.
-  pub looked_end : (hart number : ℕ) (after : List Message) (new : Holding) → Reads all read came front new after
-      → read ≡ length all.sent → IsLooked all came front hart number new after
-  looked_end hart number after new same end = record {
+  pub looked_end : (first hart number : ℕ) (after : List Message) (new : Holding) → Reads all read came front new after
+      → read ≡ length all.sent → first ≤ read → AllWanted all first read front hart number
+      → IsLooked all first came front hart number new after
+  looked_end first hart number after new same end more wanted = record {
     read = read;
     reads = same;
+    more = more;
+    wanted = wanted;
     settled =
         ap (λ l. standing_of all.window l front hart number) (take_all read all.sent (omega (arith, end)));
   }
 
   -- Where a message is that is not wanted does not depend on what follows.
-  pub looked_at : (hart number : ℕ)
+  pub looked_at : (first hart number : ℕ)
       → standing_of own.window (some ++ more) front hart number ≡ standing_of own.window some front hart number
-      → IsLooked all came front hart number own left
-  looked_at hart number same = record {
+      → first ≤ read → AllWanted all first read front hart number
+      → IsLooked all first came front hart number own left
+  looked_at first hart number same later wanted = record {
     read = read;
     reads = reads;
+    more = later;
+    wanted = wanted;
     settled =
         ap (λ w. standing_of w some front hart number) (sym reads.window)
         ∙ sym same

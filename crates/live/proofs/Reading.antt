@@ -6,7 +6,7 @@ use Rattle.std.specs.Prelude.{◌||◌, IfErr, OnOk, option_map}
 use Rattle.std.specs.List.{list_any}
 use Rattle.std.specs.Str.{bytes_eq}
 use Rattle.std.proofs.lemmas.List.Folds.{list_any-append}
-use Rattle.std.proofs.lemmas.Bool.{and_left, cases_eq, cases_lt, eqb-true, eqb-false, false_from_ne_true, le-ltb, lt-ltb, ltb-false, ltb-true}
+use Rattle.std.proofs.lemmas.Bool.{and_left, cases_eq, cases_lt, eq-eqb, eqb-true, eqb-false, false_from_ne_true, le-ltb, lt-ltb, ltb-false, ltb-true}
 use Rattle.std.proofs.lemmas.List.{drop-append-le, length-drop, length-map, length-set, length_push}
 use Rattle.std.proofs.lemmas.List.{map_push, take-append-le}
 use Rattle.std.proofs.lemmas.Option.{slice_get_within}
@@ -80,12 +80,13 @@ other_than sent hart number one read past = false_from_ne_true (is_numbered hart
     omega (arith, read, past, same, number_is))
 
 module _ (sent : List Message) (message : Message) (next_one : message.number ≡ length (of_hart message.hart sent)) where
-  -- It makes none of the messages that came true.
-  pub trues_same : (came : List Message) → AreRead sent came
-      → true_ones (sent ++ message ∷ []) came ≡ true_ones sent came
-  trues_same [] read = refl
-  trues_same (one ∷ came) read =
-      (λ i. cond (same i) (one ∷ trues_same came read.1 i) (trues_same came read.1 i))
+  -- It makes no message true whose number was read.
+  pub true_same : (one : Message) → one.number < length (of_hart one.hart sent)
+      → is_true (sent ++ message ∷ []) one ≡ is_true sent one
+  true_same one low =
+      list_any-append (is_same one) sent (message ∷ [])
+      ∙ ap (λ b. is_true sent one || b) other
+      ∙ or_false (is_true sent one)
     where
       other : list_any (is_same one) (message ∷ []) ≡ false
       other =
@@ -95,15 +96,15 @@ module _ (sent : List Message) (message : Message) (next_one : message.number �
           let its = numbered_is one.hart one.number message is in
           let hart_is = ap (λ h. length (of_hart h sent)) its.0 in
           let number_is = its.1 in
-          let low = read.0 in
           let next = next_one in
           omega (arith, hart_is, number_is, low, next)))
 
-      same : is_true (sent ++ message ∷ []) one ≡ is_true sent one
-      same =
-          list_any-append (is_same one) sent (message ∷ [])
-          ∙ ap (λ b. is_true sent one || b) other
-          ∙ or_false (is_true sent one)
+  -- It makes none of the messages that came true.
+  pub trues_same : (came : List Message) → AreRead sent came
+      → true_ones (sent ++ message ∷ []) came ≡ true_ones sent came
+  trues_same [] read = refl
+  trues_same (one ∷ came) read =
+      (λ i. cond (true_same one read.0 i) (one ∷ trues_same came read.1 i) (trues_same came read.1 i))
 
   -- It did not come yet.
   pub not_come : (came : List Message) → AreRead sent came
@@ -175,6 +176,37 @@ module _ (sent came : List Message) (front : ℕ) (own : Holding) (holds : Holds
         go : (o : Option DemuxFault) → also o message.number ≡ None → o ≡ None
         go None e = refl
         go (Some why) e = cc
+
+    -- Why a message is refused.
+    pub why_refused : (why : ReadFault) → refusal_by (slice_get own.harts message.hart) message.number ≡ Some why
+        → ((cause : DemuxFault) × (why ≡ fault.Misplaced cause) × (misplaced (length own.harts) sent message ≡ Some cause))
+        ⊎ ((why ≡ fault.Full) × (message.number ≡ 2 ^ 64 - 1) × (misplaced (length own.harts) sent message ≡ None))
+    why_refused why is = go (misplaced_at next message.number) refl (sym refusal_as ∙ is)
+      where
+        last : (b : Bool) → eqb message.number (2 ^ 64 - 1) ≡ b → cond b (Some fault.Full) None ≡ Some why
+            → (why ≡ fault.Full) × (message.number ≡ 2 ^ 64 - 1)
+        last true test e = (cc, eqb-true message.number (2 ^ 64 - 1) test)
+        last false test e = cc
+
+        go : (o : Option DemuxFault) → misplaced_at next message.number ≡ o → also o message.number ≡ Some why
+            → ((cause : DemuxFault) × (why ≡ fault.Misplaced cause) × (misplaced (length own.harts) sent message ≡ Some cause))
+            ⊎ ((why ≡ fault.Full) × (message.number ≡ 2 ^ 64 - 1) × (misplaced (length own.harts) sent message ≡ None))
+        go (Some cause) at e =
+            let same : why ≡ fault.Misplaced cause = cc in
+            inl (cause, same, placed_as ∙ at)
+        go None at e =
+            let both = last (eqb message.number (2 ^ 64 - 1)) refl e in
+            inr (both.0, both.1, placed_as ∙ at)
+
+    -- One that is not refused has not the last number.
+    pub not_last : refusal_by (slice_get own.harts message.hart) message.number ≡ None → message.number ≡ 2 ^ 64 - 1 → ⊥
+    not_last is last = go (misplaced_at next message.number) (sym refusal_as ∙ is)
+      where
+        go : (o : Option DemuxFault) → also o message.number ≡ None → ⊥
+        go (Some cause) e = let never : Some (fault.Misplaced cause) ≡ None = e in cc
+        go None e =
+            let test = eq-eqb message.number (2 ^ 64 - 1) last in
+            let never : Some fault.Full ≡ None = ap (λ b. cond b (Some fault.Full) None) (sym test) ∙ e in cc
 
     -- A message that is refused.
     pub refused : (why : ReadFault) → read_by own message ≡ Err why

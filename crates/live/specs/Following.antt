@@ -1,17 +1,29 @@
 -- What is read of SENT from where it comes.
-use Rattle.std.specs.Prelude.{ℕ, ◌≡◌, ◌≢◌, ◌≤◌, ◌++◌, List, [], ◌∷◌, Option, Some, None, Result, Ok, Err, drop, length, take}
+use Rattle.std.specs.Prelude.{ℕ, ◌≡◌, ◌≢◌, ◌-◌, ◌^◌, ◌<◌, ◌≤◌, ◌++◌, true, List, [], ◌∷◌, Option, Some, None, Result, Ok, Err}
+use Rattle.std.specs.Prelude.{drop, length, option_map, slice_get, take}
+use Rattle.message.specs.declared.fault.DemuxFault.{DemuxFault}
 use Rattle.message.specs.declared.message.Message.{Message}
 use Rattle.auditing.specs.Sent.{AreInTurn, misplaced}
 use Rattle.live.specs.Holding.{Holding}
-use Rattle.live.specs.Holds.{Holds}
+use Rattle.live.specs.Holds.{Holds, is_wanted}
 use Rattle.live.specs.View.{standing_of}
+use Rattle.live.specs.declared.fault.LookFault.{LookFault}
+use Rattle.live.specs.declared.fault.LookFault.TheVariants as look
+use Rattle.live.specs.declared.fault.ReadFault.TheVariants as fault
 use Rattle.live.specs.declared.fault.SourceFault.{SourceFault}
+use Rattle.live.specs.declared.fault.SourceFault.TheVariants as source
+
+-- Why a source does not give the next message: where it says that there is no complete one, none is left. It may fail at any
+-- place.
+abbrev pub IsSourceFault : SourceFault → List Message → Type 0
+IsSourceFault (source.Unread why) left = left ≡ []
+IsSourceFault other left = Unit {0}
 
 -- What a source of messages gives, by those that were left and those that are.
 abbrev pub IsNext : Result (Option Message) SourceFault → List Message → List Message → Type 0
 IsNext (Ok (Some message)) old new = old ≡ message ∷ new
 IsNext (Ok None) old new = (old ≡ []) × (new ≡ [])
-IsNext (Err why) old new = Unit {0}
+IsNext (Err why) old new = IsSourceFault why old
 
 -- What is audited: how many harts there are, the window, the messages of SENT, and what follows them there.
 pub record Audited : Type 0 where
@@ -39,15 +51,50 @@ pub record Reads (all : Audited) (read : ℕ) (came : List Message) (front : ℕ
   pub harts : length own.harts ≡ all.harts
   pub window : own.window ≡ all.window
 
--- SENT was read until where a message of this hart with this number is does not depend on what follows.
-pub record IsLooked (all : Audited) (came : List Message) (front hart number : ℕ) (own : Holding) (left : List Message)
-    : Type 0 where
+-- The first of these messages is not the next one of its hart after these, for this reason.
+abbrev pub BeginsMisplaced : ℕ → List Message → List Message → DemuxFault → Type 0
+BeginsMisplaced harts sent [] why = ⊥
+BeginsMisplaced harts sent (message ∷ messages) why = misplaced harts sent message ≡ Some why
+
+-- Why SENT is not read on after so many messages of it: its source does not give the next one; or all of it was read, and
+-- what follows is not the next one of its hart; or the next one has number 2^64 - 1.
+abbrev pub IsLookFault : Audited → ℕ → LookFault → Type 0
+IsLookFault all read (look.Source why) = IsSourceFault why (drop read all.sent ++ all.rest)
+IsLookFault all read (look.Sent (fault.Misplaced why)) =
+    (read ≡ length all.sent) × BeginsMisplaced all.harts all.sent all.rest why
+IsLookFault all read (look.Sent fault.Full) =
+    option_map (λ (message : Message). message.number) (slice_get all.sent read) ≡ Some (2 ^ 64 - 1)
+
+-- SENT was read from one place to another to look up a message of this hart with this number: no message before was read in
+-- vain.
+abbrev pub AllWanted : Audited → ℕ → ℕ → ℕ → ℕ → ℕ → Type 0
+AllWanted all first read front hart number = (k : ℕ) → first ≤ k → k < read
+    → is_wanted all.harts all.window (take k all.sent) front hart number ≡ true
+
+-- SENT was read on until where a message of this hart with this number is does not depend on what follows.
+pub record IsLooked (all : Audited) (first : ℕ) (came : List Message) (front hart number : ℕ) (own : Holding)
+    (left : List Message) : Type 0 where
   pub read : ℕ
   pub reads : Reads all read came front own left
+  pub more : first ≤ read
+  pub wanted : AllWanted all first read front hart number
   pub settled : standing_of all.window (take read all.sent) front hart number
       ≡ standing_of all.window all.sent front hart number
 
--- The same where it is known, or SENT was not read on. Then some messages of it were read.
-abbrev pub Looks : {U E : Type 0} → Audited → List Message → ℕ → ℕ → ℕ → Result U E → Holding → List Message → Type 0
-Looks all came front hart number (Ok done) own left = IsLooked all came front hart number own left
-Looks all came front hart number (Err why) own left = (read : ℕ) × Holds (take read all.sent) came front own
+-- SENT could not be read on. What was read before stays read.
+pub record IsStopped (all : Audited) (first : ℕ) (came : List Message) (front hart number : ℕ) (own : Holding)
+    (why : LookFault) : Type 0 where
+  pub read : ℕ
+  pub holds : Holds (take read all.sent) came front own
+  pub within : read ≤ length all.sent
+  pub harts : length own.harts ≡ all.harts
+  pub window : own.window ≡ all.window
+  pub more : first ≤ read
+  pub wanted : AllWanted all first read front hart number
+  pub fault : IsLookFault all read why
+
+-- SENT was read on as far as a message of this hart with this number asks for, after so many messages of it.
+abbrev pub Looks : {U : Type 0} → Audited → ℕ → List Message → ℕ → ℕ → ℕ → Result U LookFault → Holding → List Message
+    → Type 0
+Looks all first came front hart number (Ok done) own left = IsLooked all first came front hart number own left
+Looks all first came front hart number (Err why) own left = IsStopped all first came front hart number own why

@@ -1,6 +1,6 @@
 //! SENT is read as far as it is looked at.
 
-ghost use Rattle.std.specs.Prelude.{ℕ, List};
+ghost use Rattle.std.specs.Prelude.{ℕ, ◌+◌, ◌<◌, List};
 ghost use Rattle.message.specs.declared.message.Message.{Message as AnyMessage};
 ghost use Rattle.live.specs.Following.{Audited, IsAudited, Looks, Reads};
 ghost use Rattle.live.specs.steps.Looking.{IsNextSent, ReadsOne};
@@ -17,7 +17,8 @@ fn next_sent<A: Allocator, S: SentSource>(
     source: &mut S,
 ) -> Result<Option<Message>, LookFault>
     ensures { (all : Audited) (read : ℕ) (came : List AnyMessage) (front : ℕ) → IsAudited all
-        → Reads all read came front window.now (S.left source.old) → IsNextSent all read result (S.left source.new) }
+        → Reads all read came front window.now (S.left source.old)
+        → IsNextSent all read window.now result (S.left source.new) }
 {
     match source.next() {
         Ok(Some(message)) => match window.refusal(&message) {
@@ -29,13 +30,13 @@ fn next_sent<A: Allocator, S: SentSource>(
     }
 }
 
-/// Reads the next message of SENT, and returns whether there was one.
+/// Reads the next message of SENT, which there is a place for, and returns whether there was one.
 fn read_one<A: Allocator, S: SentSource>(
     window: &mut Window<A>,
     source: &mut S,
 ) -> Result<bool, LookFault>
     ensures { (all : Audited) (read : ℕ) (came : List AnyMessage) (front : ℕ) → IsAudited all
-        → Reads all read came front window.old (S.left source.old)
+        → Reads all read came front window.old (S.left source.old) → read < front + all.window
         → ReadsOne all read came front result window.new (S.left source.new) }
 {
     match next_sent(&*window, source) {
@@ -52,7 +53,7 @@ fn read_one<A: Allocator, S: SentSource>(
 /// wanted ([`Window::wants`]), or SENT has ended. Takes no memory.
 ///
 /// It is refused if the source has a fault, or if a message of it is not the next one of its hart. What was read before
-/// stays read.
+/// stays read. No message is read that is not wanted.
 pub fn look<A: Allocator, S: SentSource>(
     window: &mut Window<A>,
     source: &mut S,
@@ -61,7 +62,7 @@ pub fn look<A: Allocator, S: SentSource>(
 ) -> Result<(), LookFault>
     ensures { (all : Audited) (read : ℕ) (came : List AnyMessage) (front : ℕ) → IsAudited all
         → Reads all read came front window.old (S.left source.old)
-        → Looks all came front hart number result window.new (S.left source.new) }
+        → Looks all read came front hart number result window.new (S.left source.new) }
 {
     for _ in 0..u64::MAX {
         if !window.wants(hart, number) {

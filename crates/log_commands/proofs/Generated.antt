@@ -1,9 +1,6 @@
 -- What `generate` prints, from what each of its steps found.
-use Rattle.std.proofs.Common.{◌≡◌, ◌≢◌, ◌≤◌, ap, inr, refl, subst, sym, ℕ, List, Option, Some, None, Result, Ok, Err}
-use Rattle.std.proofs.Common.{Bool, if◌then◌else◌, unwrap_or}
-use Rattle.std.proofs.lemmas.Bool.{eq-eqb, ne_eqb}
-use Rattle.std.specs.Io.KnownBytes.{Keeps}
-use Rattle.std.specs.Prelude.{length}
+use Rattle.std.proofs.Common.{◌≡◌, ◌≤◌, ap, inr, refl, subst, sym, ℕ, List, Option, Some, None, Result, Ok, Err, unwrap_or}
+use Rattle.std.specs.Io.KnownBytes.{Appends, Keeps}
 use Rattle.std.specs.Result.{result_map_both}
 use Rattle.output.proofs.Beginnings.{begun_kept}
 use Rattle.output.specs.Begun.{AppendsBeginning}
@@ -12,8 +9,9 @@ use Rattle.rvclass.specs.Image.{Image}
 use Rattle.rvclass.specs.Program.{program_of}
 use Rattle.rvclass.specs.declared.fault.ProgramFault.{ProgramFault}
 use Rattle.stimulus.specs.ImageBytes.{image_bytes}
-use Rattle.stimulus.specs.Mixed.{BeginsMixed, header_of}
-use Rattle.stimulus.specs.Written.{BeginsLog, WritesLog}
+use Rattle.stimulus.specs.Mixed.{BeginsMixed}
+use Rattle.stimulus.specs.Written.{BeginsLog, WritesLog, log_of}
+use Rattle.stimulus.specs.declared.logging.Log.{Log}
 use Rattle.stimulus.specs.declared.mix.Mix.{Mix}
 use Rattle.command_inputs.proofs.Beginnings.{printed_begun}
 use Rattle.command_inputs.proofs.Runs.{appends-keeps, ends_silently}
@@ -23,13 +21,13 @@ use Rattle.command_inputs.specs.Limits.{IsUpToIfGiven}
 use Rattle.command_inputs.specs.Printed.{IsPrinted, PrintsUnlessDenied}
 use Rattle.command_inputs.specs.declared.fault.Fault.TheVariants as fault
 use Rattle.command_inputs.specs.declared.status.Status.{Status}
-use Rattle.command_inputs.specs.declared.status.Status.TheVariants.{NotWhole, Whole}
+use Rattle.command_inputs.specs.declared.status.Status.TheVariants.{Whole}
 use Rattle.command_inputs.specs.declared.words.Generate.{Generate}
 use Rattle.command_inputs.specs.declared.words.Product.{Product}
 use Rattle.command_inputs.specs.declared.words.Product.TheVariants as product
 use Rattle.log_commands.specs.Faults.{Fault}
 use Rattle.log_commands.specs.Generating.{CanGenerate, Generates, IsDrawn, IsReady, MakesFront, WritesFront, WritesRows}
-use Rattle.log_commands.specs.Generating.{capture_of, end_of_rows, events_of}
+use Rattle.log_commands.specs.Generating.{capture_of, log_asked}
 
 -- A number that is given, or else a small one, is at most what a given one is at most.
 pub at_most : (most default : ℕ) (given : Option ℕ) → IsUpToIfGiven most given → default ≤ most
@@ -68,36 +66,28 @@ module _ (asked : Generate) where
         (inr (printed_begun (MakesFront product.Image asked mix program) (image_bytes mix asked.seed) (Ok Whole) old new
         refl (subst (λ bytes. AppendsBeginning bytes old new) same begun)))
 
-    -- The text of a legal log was written, and then nothing more.
-    pub rows_printed : (most count : ℕ) (status : Status) (old mid new : Option (List ℕ))
-        → WritesLog program most count old mid → Keeps mid new → most ≡ events_of asked
-        → status ≡ end_of_rows most count → IsPrinted (WritesRows asked program) (Ok status) old new
-    rows_printed most count status old mid new log kept same is =
-        let log = subst (λ most. WritesLog program most count old mid) same log in record {
-          text = log_text log.events;
-          prints = record {
-            events = log.events;
-            legal = log.legal;
-            text = refl;
-            ended = ap Ok (subst (λ count. status ≡ end_of_rows (events_of asked) count) (sym log.counted)
-                (subst (λ most. status ≡ end_of_rows most count) same is));
-          };
-          appended = appends-keeps old mid new (log_text log.events) log.text kept;
+    -- The text of the log was written, and then nothing more.
+    pub rows_printed : (mix : Mix) (log : Log) (old mid new : Option (List ℕ)) → log ≡ log_asked asked mix
+        → WritesLog program log old mid → Keeps mid new → IsPrinted (WritesRows asked mix program) (Ok Whole) old new
+    rows_printed mix log old mid new same writes kept =
+        let text = log_text (log_of program (log_asked asked mix)) in record {
+          text = text;
+          prints = refl;
+          appended = appends-keeps old mid new text
+              (subst (λ log. Appends old mid (log_text (log_of program log))) same writes.text) kept;
         }
 
-    -- A prefix of one was written, and then nothing more.
-    pub rows_cut : (most : ℕ) (old mid new : Option (List ℕ)) → BeginsLog program most old mid → Keeps mid new
-        → most ≡ events_of asked → IsCutOf (WritesRows asked program) old new
-    rows_cut most old mid new log kept same =
-        let log = subst (λ most. BeginsLog program most old mid) same log in
-        inr (printed_begun (WritesRows asked program) (log_text log.events)
-        (Ok (end_of_rows (events_of asked) (length log.events))) old new
-        (record { events = log.events; legal = log.legal; text = refl; ended = refl })
-        (begun_kept (log_text log.events) old mid new log.begun kept))
+    -- A prefix of it was written, and then nothing more.
+    pub rows_cut : (mix : Mix) (log : Log) (old mid new : Option (List ℕ)) → log ≡ log_asked asked mix
+        → BeginsLog program log old mid → Keeps mid new → IsCutOf (WritesRows asked mix program) old new
+    rows_cut mix log old mid new same begins kept =
+        let text = log_text (log_of program (log_asked asked mix)) in
+        inr (printed_begun (WritesRows asked mix program) text (Ok Whole) old new refl
+        (begun_kept text old mid new (subst (λ log. BeginsLog program log old mid) same begins) kept))
 
     -- A prefix of a front of a capture was written, and then nothing more.
     pub mixed_cut : (mix : Mix) (old mid new : Option (List ℕ))
-        → BeginsMixed program asked.version (header_of (capture_of asked mix)) old mid → Keeps mid new
+        → BeginsMixed program (capture_of asked mix) old mid → Keeps mid new
         → IsCutOf (WritesFront asked mix program) old new
     mixed_cut mix old mid new made kept = inr (printed_begun (WritesFront asked mix program) made.bytes (Ok Whole) old new
         made.front (begun_kept made.bytes old mid new made.begun kept))
@@ -106,10 +96,3 @@ module _ (asked : Generate) where
 pub keeps_itself : (bytes : Option (List ℕ)) → Keeps bytes bytes
 keeps_itself None = tt
 keeps_itself (Some bytes) = refl
-
--- A log of as many rows as were asked for is whole, and of fewer it is not.
-pub whole_end : (most count : ℕ) → count ≡ most → Whole ≡ end_of_rows most count
-whole_end most count is = ap (λ (b : Bool). if b then Whole else NotWhole) (sym (eq-eqb count most is))
-
-pub other_end : (most count : ℕ) → count ≢ most → NotWhole ≡ end_of_rows most count
-other_end most count is = ap (λ (b : Bool). if b then Whole else NotWhole) (sym (ne_eqb count most is))

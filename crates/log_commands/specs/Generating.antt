@@ -7,11 +7,10 @@ use Rattle.command_inputs.specs.Order.{base_fault}
 use Rattle.command_inputs.specs.Printed.{First}
 use Rattle.command_inputs.specs.declared.fault.Fault.TheVariants as fault
 use Rattle.command_inputs.specs.declared.status.Status.{Status}
-use Rattle.command_inputs.specs.declared.status.Status.TheVariants.{NotWhole, Whole}
+use Rattle.command_inputs.specs.declared.status.Status.TheVariants.{Whole}
 use Rattle.command_inputs.specs.declared.words.Generate.{Generate}
 use Rattle.command_inputs.specs.declared.words.Product.{Product}
 use Rattle.command_inputs.specs.declared.words.Product.TheVariants as product
-use Rattle.legalpath.specs.LegalUpTo.{IsLegalUpTo}
 use Rattle.message.specs.Version.{most_harts}
 use Rattle.message.specs.declared.header.Version.TheVariants.{One, Two}
 use Rattle.message.specs.declared.header.Version.{Version}
@@ -19,11 +18,12 @@ use Rattle.payload.specs.declared.mode.Mode.{Mode}
 use Rattle.payload.specs.declared.mode.Mode.TheVariants.{Differential, Full}
 use Rattle.retire.specs.LogText.{log_text}
 use Rattle.retire.specs.Number.{number_of}
-use Rattle.retire.specs.declared.event.Event.{Event}
 use Rattle.rvclass.specs.Image.{Image}
 use Rattle.stimulus.specs.ImageBytes.{image_bytes}
-use Rattle.stimulus.specs.Mixed.{IsMixedCapture, IsMixedFront, header_of}
+use Rattle.stimulus.specs.Mixed.{IsMixedCapture, IsMixedFront}
+use Rattle.stimulus.specs.Written.{log_of}
 use Rattle.stimulus.specs.declared.capturing.Capture.{Capture}
+use Rattle.stimulus.specs.declared.logging.Log.{Log}
 use Rattle.stimulus.specs.declared.mix.Mix.{Mix}
 use Rattle.log_commands.specs.Faults.{Fault, Meaning, Once, Printed}
 use Rattle.log_commands.specs.declared.reason.LogReason.TheVariants as reason
@@ -65,10 +65,6 @@ abbrev pub stray_of : Product → Generate → Option Stray
 stray_of product.Log asked = capture_option asked
 stray_of product.Capture asked = log_option asked
 stray_of _ asked = first_option (log_option asked) (capture_option asked)
-
--- How many rows a log has: as many as are given, or else a million.
-abbrev pub events_of : Generate → ℕ
-events_of asked = unwrap_or asked.events 1000000
 
 -- What a capture is made of: what is given, or else 1 hart, a million messages, a period of 1024, and bursts of up to 16.
 abbrev pub capture_of : Generate → Mix → Capture
@@ -123,41 +119,43 @@ IsReady asked (Err why) = generate_fault asked ≡ Some why
 abbrev pub IsDrawn : Generate → Mix × ℕ → Result Image Fault → Type 0
 IsDrawn asked (mix, base) found = found ≡ program_at base (Ok (image_bytes mix asked.seed))
 
--- How a log of so many rows ends: all is done where it has as many as were asked for.
-abbrev pub end_of_rows : ℕ → ℕ → Status
-end_of_rows most count = if count == most then Whole else NotWhole
+-- What a log is made of: what is given, or else hart 0 and a million rows.
+abbrev pub log_asked : Generate → Mix → Log
+log_asked asked mix = record {
+  mix = mix;
+  seed = asked.seed;
+  hart = unwrap_or asked.hart 0;
+  events = unwrap_or asked.events 1000000;
+}
 
--- The text of a log that is legal for the program is written, of as many events as were asked for. Where it has fewer,
--- the run ends as not whole.
-pub record WritesRows (asked : Generate) (program : Image) (printed : Printed) : Type 0 where
-  pub events : List Event
-  pub legal : IsLegalUpTo (events_of asked) program events
-  pub text : printed.text ≡ log_text events
-  pub ended : printed.ended ≡ Ok (end_of_rows (events_of asked) (length events))
+-- The text of the log of the hart is written, of as many events as were asked for, and all is done.
+abbrev pub WritesRows : Generate → Mix → Image → Printed → Type 0
+WritesRows asked mix program printed =
+    printed ≡ record { text = log_text (log_of program (log_asked asked mix)); ended = Ok Whole }
 
--- A capture is written of which each hart's messages are those of a legal log of the program, and all is done.
+-- The capture is written that is asked for, of which each hart's messages are those of a legal log of the program, and
+-- all is done.
 abbrev pub WritesMixed : Generate → Mix → Image → Printed → Type 0
 WritesMixed asked mix program printed =
-    IsMixedCapture program asked.version (header_of (capture_of asked mix)) printed.text
+    IsMixedCapture program (capture_of asked mix) printed.text
     × (printed.ended ≡ Ok Whole)
 
 -- A front of a capture is written, of which each hart's messages are the first of those of a legal log of the program.
 abbrev pub WritesFront : Generate → Mix → Image → Printed → Type 0
-WritesFront asked mix program printed =
-    IsMixedFront program asked.version (header_of (capture_of asked mix)) printed.text
+WritesFront asked mix program printed = IsMixedFront program (capture_of asked mix) printed.text
 
 -- What is asked for is written: the image, a log or a capture.
 abbrev pub Makes : Product → Generate → Mix → Image → Printed → Type 0
 Makes product.Image asked mix program printed =
     printed ≡ record { text = image_bytes mix asked.seed; ended = Ok Whole }
-Makes product.Log asked mix program printed = WritesRows asked program printed
+Makes product.Log asked mix program printed = WritesRows asked mix program printed
 Makes _ asked mix program printed = WritesMixed asked mix program printed
 
 -- The same, or a front of a capture.
 abbrev pub MakesFront : Product → Generate → Mix → Image → Printed → Type 0
 MakesFront product.Image asked mix program printed =
     printed ≡ record { text = image_bytes mix asked.seed; ended = Ok Whole }
-MakesFront product.Log asked mix program printed = WritesRows asked program printed
+MakesFront product.Log asked mix program printed = WritesRows asked mix program printed
 MakesFront _ asked mix program printed = WritesFront asked mix program printed
 
 -- What the arguments ask for is looked at, then the program is made. Where there is no fault, what is asked for is

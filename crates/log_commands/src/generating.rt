@@ -10,7 +10,7 @@ ghost use Rattle.command_inputs.specs.declared.fault.Fault.TheVariants as Fault;
 ghost use Rattle.log_commands.specs.Faults.{final_status};
 ghost use Rattle.log_commands.specs.Generating.{CanGenerate, Generates, GeneratesFront, IsReady, Makes, MakesFront};
 ghost use Rattle.log_commands.specs.Generating.{WritesFront, WritesMixed, WritesRows, capture_of, capture_option};
-ghost use Rattle.log_commands.specs.Generating.{generate_fault, log_option, stray_of};
+ghost use Rattle.log_commands.specs.Generating.{generate_fault, log_asked, log_option, stray_of};
 ghost use Rattle.stimulus.specs.ImageBytes.{image_bytes};
 
 use crate::reason::{Fault, LogReason, Stray};
@@ -44,8 +44,7 @@ const DEFAULT_BURST: u16 = 16;
 ///
 /// No file is read. What is asked for is looked at first: what is made, the mix, options that do not go with it, the
 /// base, the count of harts; then the program is made. No list grows with the run. The log of a hart is legal, and each
-/// hart's messages are those of a legal log of the same program: so `stimulus` promises. A log with fewer rows than were
-/// asked for ends as not whole.
+/// hart's messages are those of a legal log of the same program: so `stimulus` promises.
 pub fn generate<'a, O: Write>(
     alloc: Global,
     asked: &Generate<'a>,
@@ -188,22 +187,25 @@ fn write_rows<'a, O: Write>(
     requires { IsGenerateWithin asked.now }
     ensures ended { final_status result ≢ Status.Refused }
     ensures untouched { result ≡ Err Fault.Memory → out.new ≡ out.old }
-    ensures printed { PrintsUnlessDenied (WritesRows asked.now program.now) ⊤ result
+    ensures printed { PrintsUnlessDenied (WritesRows asked.now mix program.now) ⊤ result
         (O.contents out.old) (O.contents out.new) }
-    ensures cut { IsCutOf (WritesRows asked.now program.now) (O.contents out.old) (O.contents out.new) }
+    ensures cut { IsCutOf (WritesRows asked.now mix program.now) (O.contents out.old) (O.contents out.new) }
 {
-    let log = Log {
+    write_log(alloc, program, &log_asked(asked, mix), out)?;
+    out.flush()?;
+    Ok(Status::Whole)
+}
+
+/// What a log is made of.
+fn log_asked(asked: &Generate<'_>, mix: Mix) -> Log
+    requires { IsGenerateWithin asked.now }
+    ensures { result ≡ log_asked asked.now mix }
+{
+    Log {
         mix,
         seed: asked.seed,
         hart: asked.hart.unwrap_or(0),
         events: asked.events.unwrap_or(DEFAULT_EVENTS) as u32,
-    };
-    let count = write_log(alloc, program, &log, out)?;
-    out.flush()?;
-    if count == log.events {
-        Ok(Status::Whole)
-    } else {
-        Ok(Status::NotWhole)
     }
 }
 

@@ -2,11 +2,12 @@
 use Rattle.std.proofs.Common.{◌≡◌, ◌∙◌, ◌<◌, ◌≤◌, ◌^◌, ◌++◌, All, ap, arith, refl, subst, sym, ℕ, Bool, true}
 use Rattle.std.proofs.Common.{List, [], ◌∷◌, Option, Some, None, Result, Ok, append-nil, get_or, length, map, replicate, slice_get}
 use Rattle.std.proofs.lemmas.List.{append_assoc, get_or-map, get_or-replicate, length-map, length-replicate}
-use Rattle.std.proofs.lemmas.List.Elements.{All-cons, All-nil}
+use Rattle.std.proofs.lemmas.List.Elements.{All-cons, All-head, All-nil}
 use Rattle.std.proofs.lemmas.Option.{same_Some, slice_get-get_or, slice_get_within}
 use Rattle.retire.specs.declared.event.Event.{Event}
 use Rattle.rvclass.specs.Fetch.{words_of}
-use Rattle.rvclass.specs.Image.{Image}
+use Rattle.rvclass.proofs.WordsLemmas.{words_of-IsProgram}
+use Rattle.rvclass.specs.Image.{Image, IsImage}
 use Rattle.rvclass.specs.Words.{IsProgram}
 use Rattle.legalpath.specs.ProgramLog.{ProgramLog, program_log}
 use Rattle.payload.specs.declared.by.By.TheVariants as by
@@ -19,13 +20,17 @@ use Rattle.message.proofs.AcceptedLemmas.{AreAccepted-next}
 use Rattle.message.proofs.Answering.{answer-unpacked}
 use Rattle.message.specs.Accepted.{AreAccepted, expected_after, newcomers}
 use Rattle.message.specs.Capture.{capture}
-use Rattle.message.specs.Header.{IsHeader, header_bytes}
+use Rattle.message.proofs.StartsRead.{never_both}
+use Rattle.message.specs.Cut.{IsMessage}
+use Rattle.message.specs.Header.{IsHeader, IsMarked, header_bytes}
 use Rattle.message.specs.OfHart.{of_hart, packets_of}
+use Rattle.message.specs.declared.header.Version.{Version}
+use Rattle.message.specs.declared.header.Version.TheVariants.{One, Two}
 use Rattle.message.specs.declared.message.Message.{Message}
 use Rattle.receiver.specs.Agreeing.{Agrees, opens_another}
 use Rattle.receiver.specs.Holds.{AreDecoded}
 use Rattle.captures.proofs.NextMessages.{all_ranges, log_described, log_ended, next_message}
-use Rattle.captures.specs.Decoded.{IsDecoded, Version2}
+use Rattle.captures.specs.Decoded.{IsDecoded, Version1, Version2}
 use Rattle.captures.specs.Messages.{messages_of_harts}
 use Rattle.captures.specs.Returned.{AreReturned, IsLongLegalLog}
 use Rattle.captures.specs.Versions.{header_of}
@@ -34,6 +39,7 @@ use Rattle.captures.specs.declared.outcome.CaptureFault.{CaptureFault}
 use Rattle.auditing.proofs.DecodedAgain.{decoded_again}
 use Rattle.auditing.specs.DecodedAgain.{AreDecodedAgain}
 use Rattle.auditing.specs.Known.{known_all}
+use Rattle.path_commands.specs.DecodedLogs.{header_in}
 
 -- The events of a log.
 abbrev events_of : ProgramLog → List Event
@@ -49,6 +55,18 @@ returned : (logs : List ProgramLog) (lists again : List (List Event)) (closed fl
     → AreDecodedAgain lists closed again flags stop → AreReturned logs again flags stop
 returned logs lists again closed flags None lists_are closed_are same = (same.0 ∙ lists_are, same.1 ∙ closed_are)
 returned logs lists again closed flags (Some stop) lists_are closed_are memory = memory
+
+-- Messages do not begin with the mark of version 2.
+pub unmarked : (messages : List Message) → All IsMessage messages → ¬ IsMarked (capture messages)
+unmarked [] ranges marked = let count = ap length marked.1 in omega (arith, count)
+unmarked (message ∷ messages) ranges marked =
+    never_both message (capture messages) marked.0 (All-head IsMessage message messages ranges) marked.1
+
+-- Where no mode is announced, none is another.
+agree_with_none : (messages : List Message) → All (Agrees None) messages
+agree_with_none [] = All-nil (Agrees None)
+agree_with_none (message ∷ messages) =
+    All-cons (Agrees None) message messages (λ packet is. refl) (agree_with_none messages)
 
 module _ (program : Image) (period : ℕ) (mode : Mode) (logs : List ProgramLog)
     (legal : All IsLongLegalLog logs) (all_same : All (λ (log : ProgramLog). log.program ≡ program) logs)
@@ -132,16 +150,63 @@ module _ (program : Image) (period : ℕ) (mode : Mode) (logs : List ProgramLog)
         stops = refl;
       })
 
+  -- And in version 1 too, where so many harts are asked for.
+  sent_plain : IsDecoded (words_of program) harts (capture all) (map events_of logs) (replicate harts true) None
+  sent_plain =
+      let ranges = all_ranges program period mode logs legal all_same few in
+      let every = sym (all_selected all ranges) in
+      Version1 (unmarked all ranges) (record {
+        messages = all;
+        rest = [];
+        ranges = ranges;
+        whole = sym (append-nil (capture all));
+        accepted = subst (AreAccepted (newcomers harts)) every (accepted_from [] all refl tt);
+        agree = subst (All (Agrees None)) every (agree_with_none all);
+        decoded = subst (λ (messages : List Message).
+            AreDecoded (λ hart. words_of program) harts messages (map events_of logs) (replicate harts true)) every
+            all_decoded;
+        stops = refl;
+      })
+
   -- A capture in which each hart has the same messages decodes to the logs.
-  pub others_decode : IsProgram (words_of program) → IsHeader (header_of period mode logs) → (asked : ℕ)
-      (bytes : List ℕ) (others : List Message)
-      → IsWhole bytes (Some (header_of period mode logs)) others
+  pub others_decode : IsProgram (words_of program) → IsHeader (header_of period mode logs) → (version : Version)
+      (asked : ℕ) → (version ≡ One → asked ≡ harts) → (bytes : List ℕ) (others : List Message)
+      → IsWhole bytes (header_in version (header_of period mode logs)) others
       → ((hart : ℕ) → of_hart hart others ≡ of_hart hart all)
       → (lists : List (List Event)) (closed : List Bool) (stop : Option (ℕ × CaptureFault))
       → IsDecoded (words_of program) asked bytes lists closed stop → AreReturned logs lists closed stop
-  others_decode is start asked bytes others whole same lists closed stop decoded =
+  others_decode is start One asked count bytes others whole same lists closed stop decoded =
+      let ranges = all_ranges program period mode logs legal all_same few in
+      returned logs (map events_of logs) lists (replicate harts true) closed stop refl refl
+      (decoded_again by.Bytes (words_of program) asked (capture all) bytes None all others
+      (map events_of logs) lists (replicate harts true) closed stop is
+      (record { ranges = ranges; whole = (unmarked all ranges, refl) }) whole
+      (λ hart. ap (known_all by.Bytes) (same hart))
+      (subst (λ n. IsDecoded (words_of program) n (capture all) (map events_of logs) (replicate harts true) None)
+      (sym (count refl)) sent_plain) decoded)
+  others_decode is start Two asked count bytes others whole same lists closed stop decoded =
       returned logs (map events_of logs) lists (replicate harts true) closed stop refl refl
       (decoded_again by.Bytes (words_of program) asked sent bytes (Some (header_of period mode logs)) all others
       (map events_of logs) lists (replicate harts true) closed stop is
       (record { ranges = all_ranges program period mode logs legal all_same few; whole = (start, refl) }) whole
       (λ hart. ap (known_all by.Bytes) (same hart)) (sent_decodes asked start) decoded)
+
+-- A capture in which the messages of legal logs are mixed decodes to the logs.
+pub mixed_captures : (program : Image) (period : ℕ) (mode : Mode) (version : Version) (logs : List ProgramLog)
+    → IsHeader (header_of period mode logs) → All IsLongLegalLog logs
+    → All (λ (log : ProgramLog). log.program ≡ program) logs → (bytes : List ℕ) (messages : List Message)
+    → IsWhole bytes (header_in version (header_of period mode logs)) messages
+    → ((hart : ℕ) → of_hart hart messages ≡ of_hart hart (messages_of_harts period mode 0 logs))
+    → (harts : ℕ) → (version ≡ One → harts ≡ length logs)
+    → (lists : List (List Event)) (closed : List Bool) (stop : Option (ℕ × CaptureFault))
+    → IsDecoded (words_of program) harts bytes lists closed stop → AreReturned logs lists closed stop
+mixed_captures program period mode version [] start legal same bytes messages whole own harts known lists closed stop is =
+    let some = start.some_harts in
+    absurd (omega (arith, some))
+mixed_captures program period mode version (log ∷ logs) start legal same bytes messages whole own harts known lists closed
+    stop is =
+    let few = start.harts in
+    let image = subst IsImage (All-head (λ (log : ProgramLog). log.program ≡ program) log logs same)
+    (All-head IsLongLegalLog log logs legal).image in
+    others_decode program period mode (log ∷ logs) legal same (omega (arith, few)) (words_of-IsProgram program image) start
+    version harts known bytes messages whole own lists closed stop is

@@ -16,12 +16,15 @@ use Rattle.legalpath.specs.ProgramLog.{ProgramLog, program_log}
 use Rattle.encoder.specs.Payloads.{payloads}
 use Rattle.message.proofs.OfHartLemmas.{of_hart-append, of_hart-others, of_hart-own}
 use Rattle.message.specs.Cut.{IsMessage}
-use Rattle.message.specs.Header.{IsHeader}
+use Rattle.message.specs.Capture.{capture}
+use Rattle.message.specs.Header.{IsHeader, IsMarked}
 use Rattle.message.specs.Numbered.{messages_from}
 use Rattle.message.specs.OfHart.{of_hart}
+use Rattle.message.specs.Version.{most_harts}
 use Rattle.message.specs.declared.fault.DemuxFault.TheVariants as demux
 use Rattle.message.specs.declared.header.Header.{Header}
-use Rattle.message.specs.declared.header.Version.TheVariants.{Two}
+use Rattle.message.specs.declared.header.Version.{Version}
+use Rattle.message.specs.declared.header.Version.TheVariants.{One, Two}
 use Rattle.message.specs.declared.message.Message.{Message}
 use Rattle.captures.proofs.Elements.{All-middle}
 use Rattle.payload.specs.declared.mode.Mode.{Mode}
@@ -30,19 +33,21 @@ use Rattle.captures.proofs.SoundLogs.{sound_logs}
 use Rattle.captures.specs.Decoded.{IsDecoded}
 use Rattle.captures.specs.Messages.{messages_of_harts}
 use Rattle.captures.specs.Returned.{IsLongLegalLog}
-use Rattle.captures.specs.Versions.{header_of}
-use Rattle.captures.specs.Whole.{IsWhole}
+use Rattle.captures.specs.Versions.{header_of, start_bytes}
+use Rattle.captures.specs.Whole.{BeginsWith, IsWhole}
 use Rattle.captures.specs.declared.outcome.CaptureFault.{CaptureFault}
-use Rattle.stimulus.specs.Mixed.{IsMixedCapture}
+use Rattle.stimulus.specs.Mixed.{IsMixedCapture, events_of, plan_of}
+use Rattle.stimulus.specs.Mixed.{header_of as asked_header}
+use Rattle.stimulus.specs.declared.capturing.Capture.{Capture}
 use Rattle.auditing.proofs.AllWhole.{untouched_same, whole_untouched}
 use Rattle.auditing.specs.DecodedAgain.{AreAllWhole}
 use Rattle.auditing.specs.Judged.{Judged, is_fate, judged}
-use Rattle.auditing.specs.Sent.{AreInTurn, IsSent, misplaced, misplaced_at}
+use Rattle.auditing.specs.Sent.{AreInTurn, IsSent, known_harts, misplaced, misplaced_at}
 use Rattle.auditing.specs.Untouched.{is_touched}
 use Rattle.auditing.specs.declared.fate.Fate.{Fate}
 use Rattle.auditing.specs.declared.fate.Fate.TheVariants as fate
-use Rattle.path_commands.proofs.DecodedCaptures.{others_decode}
-use Rattle.path_commands.specs.DecodedLogs.{AreItsLogs}
+use Rattle.path_commands.proofs.DecodedCaptures.{others_decode, unmarked}
+use Rattle.path_commands.specs.DecodedLogs.{AreItsLogs, header_in}
 
 -- A list with an element in its middle has one.
 no_middle : {X : Type 0} (front : List X) (x : X) (rest : List X) → front ++ x ∷ rest ≡ [] → ⊥
@@ -158,7 +163,7 @@ no_strangers (one ∷ ones) untouched =
 module _ (harts : ℕ) (messages others : List Message) (turn : AreInTurn harts [] messages)
     (same : (hart : ℕ) → of_hart hart others ≡ of_hart hart messages) where
   -- Messages that are in turn are whole where the same come of each hart.
-  whole_alike : (header : Header) → AreAllWhole (Some header) messages others
+  whole_alike : (header : Option Header) → AreAllWhole header messages others
   whole_alike header = record {
     harts = λ hart is. (whole_untouched harts hart messages others turn).1
         ((untouched_same harts hart messages others turn).1 (same hart));
@@ -185,18 +190,31 @@ none_behind period mode hart first (log ∷ logs) behind =
     (none_from hart first 0 (payloads period mode log) (omega (arith, behind)))
     ∙ none_behind period mode hart (first + 1) logs (omega (arith, behind))
 
-module _ (program : Image) (header : Header) (start : IsHeader header) (bytes : List ℕ)
-    (made : IsMixedCapture program Two header bytes) where
-  numbered : (hart : ℕ) → hart < header.harts → IsNumbered hart made.messages
-  numbered hart is =
-      let sends = made.each hart is in
-      record { payloads = payloads header.period header.mode (program_log program sends.events); own = sends.own }
+module _ (program : Image) (asked : Capture) (start : IsHeader (asked_header asked)) (bytes : List ℕ)
+    (made : IsMixedCapture program asked bytes) where
+  abbrev header : Header
+  header = asked_header asked
+
+  -- The log of a hart.
+  abbrev log_of : ℕ → ProgramLog
+  log_of hart =
+      program_log program (events_of (words_of program) (plan_of program asked) hart (made.counts hart))
+
+  numbered : (hart : ℕ) → IsNumbered hart made.messages
+  numbered hart = by (ltb hart header.harts) refl
+    where
+      by : (b : Bool) → ltb hart header.harts ≡ b → IsNumbered hart made.messages
+      by true is = record {
+        payloads = payloads header.period header.mode (log_of hart);
+        own = (made.each hart (ltb-true hart header.harts is)).own;
+      }
+      by false is = record { payloads = []; own = made.none hart (ltb-false hart header.harts is) }
 
   -- The messages of a hart are within their ranges.
   ranges_of : (hart : ℕ) → hart < header.harts → All IsMessage (of_hart hart made.messages)
   ranges_of hart is =
       let sends = made.each hart is in
-      let log = program_log program sends.events in
+      let log = log_of hart in
       let few = start.harts in
       let sent = all_sent header.period header.mode header.harts hart (log ∷ []) (omega (arith, is))
       (omega (arith, few)) (sound_logs header.period header.mode (log ∷ [])
@@ -205,20 +223,34 @@ module _ (program : Image) (header : Header) (start : IsHeader header) (bytes : 
       (All-weaker (IsSentByHart header.harts) IsMessage (λ message is. is.ranges)
       (messages_of_harts header.period header.mode hart (log ∷ [])) sent)
 
+  all_in_range : All IsMessage made.messages
+  all_in_range = all_hold header.harts IsMessage [] made.messages ranges_of made.none
+
   -- The capture may be what was sent.
-  pub mixed_sent : IsSent bytes (Some header) made.messages
+  pub mixed_sent : IsSent bytes (header_in asked.version header) made.messages
   mixed_sent = record {
-    whole = record {
-      ranges = all_hold header.harts IsMessage [] made.messages ranges_of made.none;
-      whole = (start, made.whole);
-    };
-    in_turn = all_in_turn header.harts [] made.messages numbered made.none;
+    whole = record { ranges = all_in_range; whole = begins asked.version made.whole };
+    in_turn = in_turn asked.version;
   }
+    where
+      begins : (version : Version) → bytes ≡ start_bytes version header ++ capture made.messages
+          → BeginsWith (header_in version header) bytes (capture made.messages)
+      begins One is = ((λ marked. unmarked made.messages all_in_range (subst IsMarked is marked)), is)
+      begins Two is = (start, is)
+
+      in_turn : (version : Version) → AreInTurn (known_harts (header_in version header)) [] made.messages
+      in_turn One =
+          let few = start.harts in
+          all_in_turn (most_harts Two) [] made.messages (λ hart is. numbered hart)
+          (λ hart past. made.none hart (omega (arith, past, few)))
+      in_turn Two = all_in_turn header.harts [] made.messages (λ hart is. numbered hart) made.none
 
   -- And it is whole where the same messages come of each hart.
   pub mixed_whole : (others : List Message) → ((hart : ℕ) → of_hart hart others ≡ of_hart hart made.messages)
-      → AreAllWhole (Some header) made.messages others
-  mixed_whole others same = whole_alike header.harts made.messages others mixed_sent.in_turn same header
+      → AreAllWhole (header_in asked.version header) made.messages others
+  mixed_whole others same =
+      whole_alike (known_harts (header_in asked.version header)) made.messages others mixed_sent.in_turn same
+      (header_in asked.version header)
 
   -- The logs of the harts from this one on.
   record LogsFrom (first count : ℕ) : Type 0 where
@@ -239,13 +271,13 @@ module _ (program : Image) (header : Header) (start : IsHeader header) (bytes : 
   }
   logs_from first (suc count) room =
       let sends = made.each first (omega (arith, room)) in
-      let log = program_log program sends.events in
+      let log = log_of first in
       let rest = logs_from (first + 1) count (omega (arith, room)) in record {
         logs = log ∷ rest.logs;
         counted = ap suc rest.counted;
         legal = All-cons IsLongLegalLog log rest.logs sends.legal rest.legal;
         same = All-cons (λ (log : ProgramLog). log.program ≡ program) log rest.logs refl rest.same;
-        each = each_of sends.events sends.own rest;
+        each = each_of log.events sends.own rest;
       }
     where
       each_of : (events : List Event)
@@ -300,10 +332,11 @@ module _ (program : Image) (header : Header) (start : IsHeader header) (bytes : 
   header_is = ap with_harts all_logs.counted
 
   -- The capture decodes to them.
-  pub mixed_decodes : (asked : ℕ) (lists : List (List Event)) (closed : List Bool)
-      (stop : Option (ℕ × CaptureFault)) → IsDecoded (words_of program) asked bytes lists closed stop
+  pub mixed_decodes : (harts : ℕ) → (asked.version ≡ One → harts ≡ header.harts) → (lists : List (List Event))
+      (closed : List Bool) (stop : Option (ℕ × CaptureFault))
+      → IsDecoded (words_of program) harts bytes lists closed stop
       → AreItsLogs program header made.messages lists closed stop
-  mixed_decodes asked lists closed stop decoded =
+  mixed_decodes harts known lists closed stop decoded =
       let some = start.some_harts in
       let few = start.harts in
       let image = (made.each 0 (omega (arith, some))).legal.image in record {
@@ -315,7 +348,9 @@ module _ (program : Image) (header : Header) (start : IsHeader header) (bytes : 
         returned =
             others_decode program header.period header.mode all_logs.logs all_logs.legal all_logs.same
             (omega (arith, few, all_logs.counted)) (words_of-IsProgram program image)
-            (subst IsHeader (sym header_is) start) asked bytes made.messages
-            (subst (λ (h : Header). IsWhole bytes (Some h) made.messages) (sym header_is) mixed_sent.whole)
+            (subst IsHeader (sym header_is) start) asked.version harts
+            (λ one. known one ∙ sym all_logs.counted) bytes made.messages
+            (subst (λ (h : Header). IsWhole bytes (header_in asked.version h) made.messages) (sym header_is)
+            mixed_sent.whole)
             sent_logs lists closed stop decoded;
       }

@@ -5,7 +5,6 @@ use Rattle.std.proofs.lemmas.List.{append_assoc, length-map, length_push}
 use Rattle.std.specs.Prelude.{IfOk, OnOk}
 use Rattle.payload.specs.declared.by.By.{By}
 use Rattle.message.specs.Capture.{capture, message_bytes}
-use Rattle.message.specs.Cut.{IsMessage}
 use Rattle.message.specs.Header.{header_bytes}
 use Rattle.message.specs.declared.fault.MessageFault.{MessageFault}
 use Rattle.message.specs.declared.header.Header.{Header}

@@ -10,13 +10,13 @@ use Rattle.std.specs.Str.Lines.{lines}
 use Rattle.std.proofs.KnownBytes.{Appends-nil, Keeps-refl}
 use Rattle.output.specs.Begun.{AppendsBeginning}
 use Rattle.output.proofs.Beginnings.{begun_in_front, begun_kept, whole_begun}
-use Rattle.captures.proofs.Counts.{Fits, agree_none, pass_is}
 use Rattle.captures.proofs.LinesInParts.{lines_behind_feed}
 use Rattle.captures.proofs.Passes.{and_then, ends, front_of, goes_under_way, is_begun, joined, pass_parts}
 use Rattle.captures.proofs.Passes.{passed_whole}
+use Rattle.captures.proofs.StreamedCaptures.{bytes_are, skips_are, stop_is}
 use Rattle.captures.specs.Capture.{header_with}
-use Rattle.captures.specs.Pass.{IsPassed, Pass, no_lines, pass, skipped_of}
-use Rattle.captures.specs.Streamed.{found_in, known_form, skips_of, stop_of, streamed_bytes, streamed_faults}
+use Rattle.captures.specs.Pass.{IsPassed, Pass, no_lines, pass, pass_bytes, skipped_of, text_pass}
+use Rattle.captures.specs.Streamed.{known_form, skips_of, streamed_bytes, streamed_faults}
 use Rattle.captures.specs.Versions.{start_bytes}
 use Rattle.captures.specs.declared.line_fault.LinesFault.{LinesFault}
 use Rattle.captures.specs.declared.line_settings.Settings.{Settings}
@@ -40,7 +40,7 @@ use Rattle.path_commands.specs.LineFaults.{Fault}
 use Rattle.path_commands.specs.declared.line_reason.LineReason.TheVariants.{Skipped}
 use Rattle.path_commands.specs.declared.streaming.Taken.{Taken}
 use Rattle.path_commands.specs.steps.Streaming.{HasEnded, HasStopped, HasStreamed, HasTaken, IsAllPassed}
-use Rattle.path_commands.specs.steps.Streaming.{IsFinished, IsReadTo, IsStop, pass_bytes, stream_pass}
+use Rattle.path_commands.specs.steps.Streaming.{IsFinished, IsReadTo, IsStop}
 
 -- The bytes that are left, or none where they are not known.
 abbrev pub rest_of : Option (List ℕ) → List ℕ
@@ -106,7 +106,8 @@ pub block_parts : (given block : List ℕ) (end : ℕ)
 block_parts given block end =
     append_assoc given (take end block) (take (length block - end) (drop end block))
     ∙ ap (λ l. given ++ l)
-    (ap (λ l. take end block ++ l) (take_all (length block - end) (drop end block) (omega (arith, length-drop end block)))
+    (ap (λ l. take end block ++ l)
+    (take_all (length block - end) (drop end block) (omega (arith, length-drop end block)))
     ∙ take-append-drop end block)
 
 -- And so are the bytes after it.
@@ -150,53 +151,36 @@ module _ (asked : Capture) (settings : Settings) where
 
   -- A text is passed in two parts, where the last line of the first has an end.
   pub parts : (front back : List ℕ) → EndsLine front
-      → stream_pass settings asked (front ++ back) ≡ and_then (stream_pass settings asked front) (next_of back)
+      → text_pass settings asked.skip (front ++ back) ≡ and_then (text_pass settings asked.skip front) (next_of back)
   parts front back (inl none) =
-      subst (λ front. stream_pass settings asked (front ++ back)
-      ≡ and_then (stream_pass settings asked front) (next_of back)) (sym none) refl
+      subst (λ front. text_pass settings asked.skip (front ++ back)
+      ≡ and_then (text_pass settings asked.skip front) (next_of back)) (sym none) refl
   parts front back (inr (line, is)) =
-      subst (λ front. stream_pass settings asked (front ++ back)
-      ≡ and_then (stream_pass settings asked front) (next_of back)) (sym is)
+      subst (λ front. text_pass settings asked.skip (front ++ back)
+      ≡ and_then (text_pass settings asked.skip front) (next_of back)) (sym is)
       (ap (pass settings asked.skip (no_lines (known_form settings.numbers))) (lines_behind_feed line back)
       ∙ pass_parts settings asked.skip (lines (line ++ (10 ∷ []))) (lines back)
       (no_lines (known_form settings.numbers)))
 
-  -- What is written of a text is what is written of the lines that are passed.
-  module _ (text : List ℕ) where
-    fits : Fits settings.numbers asked.skip (no_lines (known_form settings.numbers)) []
-        (found_in settings (known_form settings.numbers) (lines text)) (stream_pass settings asked text)
-    fits = pass_is settings asked.skip (lines text) (no_lines (known_form settings.numbers)) []
-        (agree_none settings.numbers)
-
-    pub bytes_are : pass_bytes settings asked text ≡ streamed_bytes settings asked.skip text
-    bytes_are = ap (λ messages. start ++ capture messages) fits.messages
-
-    pub stop_is : (stream_pass settings asked text).stop
-        ≡ stop_of asked.skip (streamed_faults settings asked.skip text)
-    stop_is = fits.stop
-
-    pub skips_are : skipped_of (stream_pass settings asked text).passed
-        ≡ skips_of asked.skip (streamed_faults settings asked.skip text)
-    skips_are = omega (arith, fits.skipped)
-
   -- What is written so far is a prefix of what is written of a text that begins with what was given.
   pub taken_begun : (given : List ℕ) (taken : Taken) (old new : Option (List ℕ)) (more : List ℕ)
-      → HasTaken asked settings given taken old new → AppendsBeginning (pass_bytes settings asked (given ++ more)) old new
+      → HasTaken asked settings given taken old new
+      → AppendsBeginning (pass_bytes settings asked.skip (given ++ more)) old new
   taken_begun given taken old new more has =
       let back = taken.held.items ++ more in
       let text : given ++ more ≡ has.front ++ back =
       ap (λ l. l ++ more) has.parted ∙ append_assoc has.front taken.held.items more in
-      subst (λ text. AppendsBeginning (pass_bytes settings asked text) old new) (sym text)
-      (is_begun start (stream_pass settings asked (has.front ++ back)) old new (next_of back taken.passed)
-      (goes_under_way start (stream_pass settings asked (has.front ++ back)) old new tt
-      (stream_pass settings asked has.front) (next_of back) taken.passed (parts has.front back has.ends) has.passed))
+      subst (λ text. AppendsBeginning (pass_bytes settings asked.skip text) old new) (sym text)
+      (is_begun start (text_pass settings asked.skip (has.front ++ back)) old new (next_of back taken.passed)
+      (goes_under_way start (text_pass settings asked.skip (has.front ++ back)) old new tt
+      (text_pass settings asked.skip has.front) (next_of back) taken.passed (parts has.front back has.ends) has.passed))
 
   stop_more : (text more : List ℕ) (why : Fault) (old new : Option (List ℕ)) → EndsLine text
       → IsStop asked settings text why old new → IsStop asked settings (text ++ more) why old new
   stop_more text more why old new whole (inl memory) = inl memory
   stop_more text more why old new whole (inr (inl output)) = inr (inl output)
   stop_more text more why old new whole (inr (inr (own, is, stop, written))) =
-      let first = stream_pass settings asked text in
+      let first = text_pass settings asked.skip text in
       let same = parts text more whole ∙ ends first.stop own first (next_of more first.passed) stop in
       inr (inr (
         own,
@@ -209,9 +193,10 @@ module _ (asked : Capture) (settings : Settings) where
   pub stopped_more : (text more : List ℕ) (why : Fault) (old new : Option (List ℕ)) → EndsLine text
       → HasStopped asked settings text why old new → HasStopped asked settings (text ++ more) why old new
   stopped_more text more why old new whole has =
-      let first = stream_pass settings asked text in
+      let first = text_pass settings asked.skip text in
       let tail = front_of first.stop first (next_of more first.passed) in
-      let bytes : pass_bytes settings asked (text ++ more) ≡ pass_bytes settings asked text ++ capture tail.0 =
+      let bytes : pass_bytes settings asked.skip (text ++ more) ≡ pass_bytes settings asked.skip text
+      ++ capture tail.0 =
       ap (λ (its : Pass). start ++ capture its.messages) (parts text more whole)
       ∙ ap (λ messages. start ++ capture messages) tail.1
       ∙ ap (λ l. start ++ l) (joined first.messages tail.0)
@@ -219,7 +204,7 @@ module _ (asked : Capture) (settings : Settings) where
       record {
         begun =
             subst (λ l. AppendsBeginning l old new) (sym bytes)
-            (begun_in_front (pass_bytes settings asked text) (capture tail.0) old new has.begun);
+            (begun_in_front (pass_bytes settings asked.skip text) (capture tail.0) old new has.begun);
         stop = stop_more text more why old new whole has.stop;
       }
 
@@ -240,7 +225,8 @@ module _ (asked : Capture) (settings : Settings) where
         ap (λ l. l ++ bytes) has.parted ∙ append_assoc has.front before.held.items bytes
         ∙ ap (λ l. has.front ++ l) (sym held);
     ends = has.ends;
-    passed = subst (λ passed. IsPassed {U = Unit {0}} start (stream_pass settings asked has.front) (Ok tt) passed old new)
+    passed = subst (λ passed. IsPassed {U = Unit {0}} start (text_pass settings asked.skip has.front)
+        (Ok tt) passed old new)
         (sym same) has.passed;
   }
 
@@ -273,56 +259,57 @@ module _ (asked : Capture) (settings : Settings) where
   -- What is held is passed: it is as if all that was given were passed at once.
   module _ (given : List ℕ) (before : Taken) (last : PassedLines) (old mid : Option (List ℕ))
       (has : HasTaken asked settings given before old mid) where
-    whole_is : stream_pass settings asked given
-        ≡ and_then (stream_pass settings asked has.front) (next_of before.held.items)
-    whole_is = ap (stream_pass settings asked) has.parted ∙ parts has.front before.held.items has.ends
+    whole_is : text_pass settings asked.skip given
+        ≡ and_then (text_pass settings asked.skip has.front) (next_of before.held.items)
+    whole_is = ap (text_pass settings asked.skip) has.parted ∙ parts has.front before.held.items has.ends
 
     pub held_passed : (result : Result (Unit {0}) LinesFault) (new : Option (List ℕ))
         → IsPassed [] (next_of before.held.items before.passed) result last mid new
-        → IsPassed start (stream_pass settings asked given) result last old new
+        → IsPassed start (text_pass settings asked.skip given) result last old new
     held_passed result new passed =
-        passed_whole start (stream_pass settings asked given) old mid (next_of before.held.items before.passed) last new
+        passed_whole start (text_pass settings asked.skip given) old mid
+        (next_of before.held.items before.passed) last new
         result
-        (goes_under_way start (stream_pass settings asked given) old mid tt (stream_pass settings asked has.front)
+        (goes_under_way start (text_pass settings asked.skip given) old mid tt (text_pass settings asked.skip has.front)
         (next_of before.held.items) before.passed whole_is has.passed)
         passed
 
   -- It ended at a fault of the lines, or of the output.
   pub stopped : (text : List ℕ) (why : LinesFault) (last : PassedLines) (old new : Option (List ℕ))
-      → IsPassed {U = Unit {0}} start (stream_pass settings asked text) (Err why) last old new
+      → IsPassed {U = Unit {0}} start (text_pass settings asked.skip text) (Err why) last old new
       → HasStopped asked settings text (line.lines_fault asked.lines why) old new
   stopped text why last old new (inl (is, begun)) =
       record { begun = begun; stop = inr (inl (ap (line.lines_fault asked.lines) is)) }
   stopped text why last old new (inr (stop, kept, written)) = record {
-    begun = whole_begun (pass_bytes settings asked text) old new written;
+    begun = whole_begun (pass_bytes settings asked.skip text) old new written;
     stop = inr (inr (why, refl, stop, written));
   }
 
   -- The output was not flushed.
   pub not_flushed : (text : List ℕ) (last : PassedLines) (old mid new : Option (List ℕ)) → Keeps mid new
-      → IsPassed {U = Unit {0}} start (stream_pass settings asked text) (Ok tt) last old mid
+      → IsPassed {U = Unit {0}} start (text_pass settings asked.skip text) (Ok tt) last old mid
       → HasStopped asked settings text fault.Output old new
   not_flushed text last old mid new kept (none, is, written) = record {
-    begun = begun_kept (pass_bytes settings asked text) old mid new
-        (whole_begun (pass_bytes settings asked text) old mid written) kept;
+    begun = begun_kept (pass_bytes settings asked.skip text) old mid new
+        (whole_begun (pass_bytes settings asked.skip text) old mid written) kept;
     stop = inr (inl refl);
   }
 
   pub flushed : (text : List ℕ) (last : PassedLines) (old mid new : Option (List ℕ)) → Keeps mid new
-      → IsPassed {U = Unit {0}} start (stream_pass settings asked text) (Ok tt) last old mid
-      → IsPassed {U = Unit {0}} start (stream_pass settings asked text) (Ok tt) last old new
+      → IsPassed {U = Unit {0}} start (text_pass settings asked.skip text) (Ok tt) last old mid
+      → IsPassed {U = Unit {0}} start (text_pass settings asked.skip text) (Ok tt) last old new
   flushed text last old mid new kept (none, is, written) =
-      (none, is, appends-keeps old mid new (pass_bytes settings asked text) written kept)
+      (none, is, appends-keeps old mid new (pass_bytes settings asked.skip text) written kept)
 
   -- A text was passed to its end.
   pub finished : (text : List ℕ) (taken : Taken) (ended : Result Status Fault) (old new : Option (List ℕ))
       → IsAllPassed asked settings text taken old new
       → ended ≡ stream_end asked.lines None (skipped_of taken.passed) → IsFinished asked settings text ended old new
   finished text taken ended old new (none, is, written) ends = record {
-    right = sym (stop_is text) ∙ none;
+    right = sym (stop_is settings asked.skip text) ∙ none;
     ends =
-        ends ∙ ap (stream_end asked.lines None) (ap skipped_of is ∙ skips_are text);
-    written = subst (Appends old new) (bytes_are text) written;
+        ends ∙ ap (stream_end asked.lines None) (ap skipped_of is ∙ skips_are settings asked.skip text);
+    written = subst (Appends old new) (bytes_are settings asked.skip text) written;
   }
 
   module _ (content : Content) where
@@ -332,11 +319,12 @@ module _ (asked : Capture) (settings : Settings) where
 
     -- A prefix of what is printed of a text is written.
     cut_begun : (text : List ℕ) (old new : Option (List ℕ)) → MayHold (content asked.lines.now) text
-        → AppendsBeginning (pass_bytes settings asked text) old new → IsCutOf (Streams content asked settings) old new
+        → AppendsBeginning (pass_bytes settings asked.skip text) old new
+        → IsCutOf (Streams content asked settings) old new
     cut_begun text old new held begun =
         inr (printed_begun (Streams content asked settings) (streamed_bytes settings asked.skip text)
         (printed_stream asked.lines settings asked.skip text).ended old new (is_streamed_text text held)
-        (subst (λ l. AppendsBeginning l old new) (bytes_are text) begun))
+        (subst (λ l. AppendsBeginning l old new) (bytes_are settings asked.skip text) begun))
 
     stop_printed : (text : List ℕ) (why : Fault) (old new : Option (List ℕ)) → MayHold (content asked.lines.now) text
         → IsStop asked settings text why old new
@@ -344,9 +332,10 @@ module _ (asked : Capture) (settings : Settings) where
     stop_printed text why old new held (inl memory) = inl (inl memory)
     stop_printed text why old new held (inr (inl output)) = inl (inr (output, (text, held, tt)))
     stop_printed text why old new held (inr (inr (own, is, stop, written))) =
-        let ended : ◌≡◌ {A = Result Status Fault} (printed_stream asked.lines settings asked.skip text).ended (Err why) =
+        let ended : ◌≡◌ {A = Result Status Fault} (printed_stream asked.lines settings asked.skip text).ended
+        (Err why) =
         ap (λ stop. stream_end asked.lines stop (skips_of asked.skip (streamed_faults settings asked.skip text)))
-        (sym (stop_is text) ∙ stop) ∙ ap Err (sym is) in
+        (sym (stop_is settings asked.skip text) ∙ stop) ∙ ap Err (sym is) in
         inr (record {
           text = streamed_bytes settings asked.skip text;
           prints =
@@ -354,7 +343,7 @@ module _ (asked : Capture) (settings : Settings) where
                 text = streamed_bytes settings asked.skip text;
                 ended = ended;
               })) ended (is_streamed_text text held);
-          appended = subst (Appends old new) (bytes_are text) written;
+          appended = subst (Appends old new) (bytes_are settings asked.skip text) written;
         })
 
     -- It ended at a fault in a text that the file may hold.
@@ -397,7 +386,8 @@ module _ (asked : Capture) (settings : Settings) where
     }
 
     short_prints : (given : List ℕ) (taken : Taken) (left : Option (List ℕ)) (old new : Option (List ℕ))
-        → IsReadTo (content asked.lines.now) given left → left ≡ None → (has : HasTaken asked settings given taken old new)
+        → IsReadTo (content asked.lines.now) given left → left ≡ None
+        → (has : HasTaken asked settings given taken old new)
         → Streams content asked settings (record {
           text = streamed_bytes settings asked.skip has.front;
           ended = Err (fault.Unreadable asked.lines);
@@ -409,7 +399,7 @@ module _ (asked : Capture) (settings : Settings) where
         opened = never_absent (content asked.lines.now) given left is;
         text = has.front;
         lines = has.ends;
-        right = sym (stop_is has.front) ∙ has.passed.0;
+        right = sym (stop_is settings asked.skip has.front) ∙ has.passed.0;
         is = refl;
       }),
     )
@@ -427,7 +417,7 @@ module _ (asked : Capture) (settings : Settings) where
       printed = inr (record {
         text = streamed_bytes settings asked.skip has.front;
         prints = short_prints given taken left old new is none has;
-        appended = subst (Appends old new) (bytes_are has.front) has.passed.2;
+        appended = subst (Appends old new) (bytes_are settings asked.skip has.front) has.passed.2;
       });
       cut = cut_begun (given ++ rest_of left) old new (may_hold (content asked.lines.now) given left is)
           (taken_begun given taken old new (rest_of left) has);
@@ -454,6 +444,6 @@ module _ (asked : Capture) (settings : Settings) where
     not_begun left old new is begun =
         let text = rest_of left in
         streamed_to text fault.Output old new (may_hold (content asked.lines.now) [] left is) (record {
-          begun = begun_in_front start (capture (stream_pass settings asked text).messages) old new begun;
+          begun = begun_in_front start (capture (text_pass settings asked.skip text).messages) old new begun;
           stop = inr (inl refl);
         })

@@ -1,7 +1,7 @@
 -- The lines of an audit of messages that carry no numbers, as text.
-use Rattle.std.specs.Prelude.{ℕ, ◌+◌, ◌++◌, nat_lt, Bool, if◌then◌else◌, List, [], ◌∷◌, Option, Some, None, codes}
+use Rattle.std.specs.Prelude.{ℕ, ◌+◌, ◌++◌, ◌&&◌, nat_lt, Bool, if◌then◌else◌, List, [], ◌∷◌, Option, Some, None, codes}
 use Rattle.std.specs.Fmt.{decimal}
-use Rattle.auditing.specs.Matches.{Flags}
+use Rattle.auditing.specs.Matches.{Flags, most_edits}
 use Rattle.message.specs.Range.{selects}
 use Rattle.message.specs.declared.range.HartRange.{HartRange}
 use Rattle.auditing.specs.Losing.{runs_of}
@@ -50,9 +50,23 @@ aligned_row hart counts =
     codes "hart " ++ (decimal hart ++ (codes ": "
     ++ aligned_text counts.sent counts.came counts.lost counts.extra counts.whole))
 
--- The lines of a hart: its counts, and the runs of its lost numbers and the longest of them.
+-- More messages of a hart may match: the search for matches did not come to its end, and some are lost and some extra.
+abbrev pub may_match_more : HartCounts → Bool
+may_match_more counts =
+    nat_lt 0 counts.lost && nat_lt 0 counts.extra && nat_lt most_edits (counts.lost + counts.extra)
+
+-- The line of a hart of which more messages may match.
+abbrev pub more_line : ℕ → HartCounts → List ℕ
+more_line hart counts =
+    if may_match_more counts then
+    codes "hart " ++ (decimal hart ++ (codes ": more than " ++ (decimal most_edits
+    ++ codes " lost and extra, more may match\n")))
+    else []
+
+-- The lines of a hart: its counts, the runs of its lost numbers and the longest of them, and whether more may match.
 abbrev pub aligned_lines : ℕ → HartCounts → ℕ → ℕ → List ℕ
-aligned_lines hart counts runs longest = aligned_row hart counts ++ runs_line hart runs longest
+aligned_lines hart counts runs longest =
+    aligned_row hart counts ++ (runs_line hart runs longest ++ more_line hart counts)
 
 -- The line of all harts together, where there is more than one.
 abbrev pub aligned_all : ℕ → AlignedTotal → List ℕ

@@ -135,6 +135,7 @@ fn read_into(
 }
 
 /// Adds a message. Its payload is kept if it is of one of these harts.
+#[inline(always)]
 pub(crate) fn take_message(
     lists: &mut ByHart,
     harts: HartRange,

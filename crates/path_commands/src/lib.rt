@@ -32,6 +32,9 @@ mod total;
 
 pub use capturing::capture;
 pub use choosing::audit;
-pub use laws::{generated_captures_are_whole, generated_captures_decode, rows_are_read_back};
+pub use laws::{
+    generated_captures_are_whole, generated_captures_decode, mixed_captures_decode,
+    rows_are_read_back,
+};
 pub use line_reason::LineReason;
 pub use reason::{Fault, PathReason};

@@ -2,10 +2,10 @@
 
 ghost use Rattle.std.specs.Prelude.{◌≡◌, Some};
 ghost use Rattle.path_commands.specs.UnnumberedText.{aligned_all, aligned_row, aligned_text, arrival_text};
-ghost use Rattle.path_commands.specs.UnnumberedText.{hart_of, place_of};
+ghost use Rattle.path_commands.specs.UnnumberedText.{hart_of, may_match_more, more_line, place_of};
 
 use crate::ending::verdict_text;
-use auditing::{AlignedTotal, HartCounts, Line};
+use auditing::{AlignedTotal, HartCounts, Line, MOST_EDITS};
 use std::fmt;
 
 /// The line of a message.
@@ -76,6 +76,39 @@ impl fmt::Display for AlignedRow {
             "hart {hart}: {sent} sent, {came} came, {lost} lost, {extra} extra, {verdict}\n"
         )
     }
+}
+
+/// The line of a hart of which more messages may match, if it is one.
+#[derive(Clone, Copy)]
+pub(crate) struct MoreLine {
+    pub(crate) hart: usize,
+    pub(crate) counts: HartCounts,
+}
+
+impl fmt::Display for MoreLine {
+    ghost output = { λ line. Some (more_line line.hart line.counts) };
+
+    fn fmt<W: fmt::Write>(&self, f: &mut fmt::Formatter<W>) -> fmt::Result {
+        let hart = self.hart;
+        let most = MOST_EDITS;
+        if may_match_more(self.counts) {
+            write!(
+                f,
+                "hart {hart}: more than {most} lost and extra, more may match\n"
+            )
+        } else {
+            f.write_str("")
+        }
+    }
+}
+
+/// Whether more messages of a hart may match: the search for matches did not come to its end, and some are lost and
+/// some extra.
+fn may_match_more(counts: HartCounts) -> bool
+    ensures { result ≡ may_match_more counts }
+{
+    let unmatched = u128::from(counts.lost) + u128::from(counts.extra);
+    counts.lost > 0 && counts.extra > 0 && unmatched > MOST_EDITS as u128
 }
 
 /// The line of all harts together, where there is more than one.

@@ -6,7 +6,7 @@ ghost use Rattle.path_commands.specs.MatchedRows.{arrival_row, counts_row, total
 use crate::aligned_rows::{AlignedAllFields, ArrivalFields};
 use crate::ending::{Closing, DamageLine, StrangersLine, verdict_text};
 use crate::lines::RunsLine;
-use crate::matched_lines::{AlignedAll, AlignedRow, ArrivalText};
+use crate::matched_lines::{AlignedAll, AlignedRow, ArrivalText, MoreLine};
 use crate::table_rows::ResultRow;
 use auditing::{AlignedTotal, HartCounts, Line};
 use command_inputs::Format;
@@ -72,7 +72,8 @@ impl fmt::Display for MatchedRow {
                     runs,
                     longest,
                 };
-                write!(f, "{row}{lost}")
+                let more = MoreLine { hart, counts };
+                write!(f, "{row}{lost}{more}")
             }
         }
     }

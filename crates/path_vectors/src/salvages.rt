@@ -33,15 +33,20 @@ fn messages_in(case: &mut Case<'_>, capture: &[u8]) -> Vec<Message> {
     messages
 }
 
+/// The form that a case names.
+fn form_of(case: &Case<'_>) -> Form {
+    match case.named("form") {
+        "table" => Form::Table,
+        "rows" => Form::Lines { rows: true },
+        _ => Form::Lines { rows: false },
+    }
+}
+
 /// Appends what is done with each message: as a table with `form=table`, as lines with rows with `form=rows`, or else as
 /// lines.
 fn put_treated(case: &mut Case<'_>, capture: &[u8], treated: &[TreatedInRows]) {
     let mut text = Vec::new(case.alloc);
-    let form = match case.named("form") {
-        "table" => Form::Table,
-        "rows" => Form::Lines { rows: true },
-        _ => Form::Lines { rows: false },
-    };
+    let form = form_of(case);
     let capture = TreatedCapture {
         header: None,
         only: HartRange::ALL,
@@ -66,7 +71,7 @@ pub(crate) fn treat(case: &mut Case<'_>) {
     let Some(treated) = case.granted(treated) else {
         return;
     };
-    let rows = in_rows(case.alloc, messages, treated.as_slice());
+    let rows = in_rows(case.alloc, form_of(case), messages, treated.as_slice());
     if let Some(rows) = case.granted(rows) {
         put_treated(case, capture.as_slice(), rows.as_slice());
     }

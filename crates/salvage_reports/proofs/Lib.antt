@@ -8,6 +8,7 @@ pub mod RangeOf
 pub mod PartTexts
 pub mod SameTexts
 pub mod FoundBehind
+mod AddedUp
 mod WorkedSalvages
 pub mod TreatedLine
 pub mod TakenMessages

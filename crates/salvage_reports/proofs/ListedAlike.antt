@@ -38,7 +38,7 @@ use Rattle.listing.specs.declared.form.Form.TheVariants.{Lines}
 use Rattle.listing.specs.PacketEnding.{read_closes, read_waits}
 use Rattle.salvaging.specs.Treatments.{AreTreated}
 use Rattle.salvaging.specs.declared.treatment.Treated.{Treated}
-use Rattle.salvage_reports.specs.HartRows.{in_row, in_rows}
+use Rattle.salvage_reports.specs.HartRows.{in_form, in_rows}
 use Rattle.salvage_reports.specs.Lines.{treated_line}
 use Rattle.salvage_reports.specs.TreatedText.{spans_text, treated_text}
 use Rattle.salvage_reports.specs.ListedAlike.{CapturesAreListedAlike, taken_with}
@@ -91,14 +91,14 @@ module _ (symbols : Option (List ℕ)) (named : Mode) (words : Words) (harts : �
       (effects : List Effect) → AreAccepted (newcomers harts) front → AreAccepted (expected_after (newcomers harts) front) messages
       → HaveEffects words front messages effects
       → lines_of symbols named at (frames_from offset messages)
-      (map (in_row every) (zip messages (map taken_with effects)))
+      (map (in_form (Lines false) every) (zip messages (map taken_with effects)))
       ≡ placed_entries (Lines false) symbols named (placed at offset messages) effects
   lines_alike every at offset front [] effects before all have = refl
   lines_alike every at offset front (message ∷ messages) [] before all have = absurd have
   lines_alike every at offset front (message ∷ messages) (effect ∷ effects) before all have =
       let here = offset + length (message_bytes message) in
-      let own = in_row every (message, taken_with effect) in
-      let rest = map (in_row every) (zip messages (map taken_with effects)) in
+      let own = in_form (Lines false) every (message, taken_with effect) in
+      let rest = map (in_form (Lines false) every) (zip messages (map taken_with effects)) in
       let later = lines_alike every (at + 1) here (front ++ message ∷ []) messages effects
       (accepted_next harts front before message all.0) (accepted_rest harts front message messages all) have.1 in
       ap (λ l. l ++ lines_of symbols named (at + 1) (frames_from here messages) rest)
@@ -132,7 +132,7 @@ module _ (words : Words) (mode : Mode) (symbols : Option (List ℕ)) (bytes : Li
   whole_lines : (harts : ℕ) (announced : Option Mode) (offset : ℕ) (rest text : List ℕ) (closed : List Bool)
       → (listed : Listed harts announced offset rest text closed)
       → listed.messages ≡ messages → AreTreated words mode harts messages treated
-      → lines_of symbols (naming_mode announced) 0 (frames_from offset messages) (in_rows messages treated) ≡ text
+      → lines_of symbols (naming_mode announced) 0 (frames_from offset messages) (in_rows (Lines false) messages treated) ≡ text
   whole_lines harts announced offset rest text closed listed same are =
       let effects = listed.effects in
       let all : selected every_hart listed.messages ≡ messages =
@@ -142,7 +142,7 @@ module _ (words : Words) (mode : Mode) (symbols : Option (List ℕ)) (bytes : Li
       let taken = accepted_taken words mode harts messages effects treated program accepted have are in
       let named = naming_mode announced in
       let lines = placed_entries (Lines false) symbols named (placed_of every_hart 0 offset listed.messages) effects in
-      ap (λ done. lines_of symbols named 0 (frames_from offset messages) (in_rows messages done)) taken
+      ap (λ done. lines_of symbols named 0 (frames_from offset messages) (in_rows (Lines false) messages done)) taken
       ∙ lines_alike symbols named words harts (zip messages (map taken_with effects)) 0 offset [] messages effects tt accepted have
       ∙ ap (λ ms. placed_entries (Lines false) symbols named (placed 0 offset ms) effects) (sym same)
       ∙ ap (λ shown. placed_entries (Lines false) symbols named shown effects)
@@ -170,7 +170,7 @@ module _ (words : Words) (mode : Mode) (harts : ℕ) (symbols : Option (List ℕ
   AlikeWith header =
       IsWhole bytes header messages → All (IsFrame (known_harts header)) messages
       → AreTreated words mode (harts_counted (Some harts) header bytes) messages treated
-      → treated_text (Lines false) symbols header (spans_of header bytes) (in_rows messages treated) ≡ text
+      → treated_text (Lines false) symbols header (spans_of header bytes) (in_rows (Lines false) messages treated) ≡ text
 
   alike_with : (announced : Option Mode) (rest lines : List ℕ) (found header : Option Header)
       → (listed : AreMessagesListed words (Lines false) every_hart (harts_counted (Some harts) found bytes) announced symbols
@@ -181,9 +181,9 @@ module _ (words : Words) (mode : Mode) (harts : ℕ) (symbols : Option (List ℕ
       let both = all_listed words mode symbols bytes messages treated program (harts_counted (Some harts) found bytes)
       announced (first_place found) rest lines closed found header listed begins whole in
       subst AlikeWith both.0 (λ whole frames are.
-      ap (λ (m : Mode). start_line found ++ lines_of symbols m 0 (spans_of found bytes) (in_rows messages treated))
+      ap (λ (m : Mode). start_line found ++ lines_of symbols m 0 (spans_of found bytes) (in_rows (Lines false) messages treated))
       (sym named)
-      ∙ ap (λ spans. start_line found ++ lines_of symbols (naming_mode announced) 0 spans (in_rows messages treated))
+      ∙ ap (λ spans. start_line found ++ lines_of symbols (naming_mode announced) 0 spans (in_rows (Lines false) messages treated))
       (spans_are bytes found messages whole.whole frames)
       ∙ ap (λ l. start_line found ++ l) (whole_lines words mode symbols bytes messages treated program
       (harts_counted (Some harts) found bytes) announced (first_place found) rest lines closed listed both.1 are)

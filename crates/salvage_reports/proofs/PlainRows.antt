@@ -1,5 +1,5 @@
 -- The rows of the table are read back: all fields but one reason call for no quotes.
-use Rattle.std.proofs.Common.{◌≡◌, ℕ, zero, suc, ◌-◌, ◌==◌, ◌++◌, List, [], ◌∷◌, Bool, true, false, ap, codes, inl, inr}
+use Rattle.std.proofs.Common.{◌≡◌, ℕ, zero, suc, ◌-◌, ◌==◌, ◌++◌, List, [], ◌∷◌, Bool, true, false, codes, inl, inr}
 use Rattle.std.proofs.Common.{length, refl, replicate, subst}
 use Rattle.std.proofs.lemmas.Bool.{cases_Bool, eqb-true}
 use Rattle.std.specs.Fmt.{decimal}
@@ -172,6 +172,9 @@ item_read (item.Doubtful hart number first second) =
     (rw (decimal_plain hart, decimal_plain number, offset_plain first, offset_plain second) refl)
 item_read (item.Alone hart number offset) =
     plain_read (row.item_fields reason_text (item.Alone hart number offset)) tt
+    (rw (decimal_plain hart, decimal_plain number, offset_plain offset) refl)
+item_read (item.Far hart number offset) =
+    plain_read (row.item_fields reason_text (item.Far hart number offset)) tt
     (rw (decimal_plain hart, decimal_plain number, offset_plain offset) refl)
 item_read (item.Run offset count) =
     plain_read (row.item_fields reason_text (item.Run offset count)) tt

@@ -17,7 +17,7 @@ use Rattle.output.specs.Quoted.{quoted_field}
 use Rattle.salvage_reports.specs.Fields.{count_field, done_fields, first_place, last_place, taken_flag, treatment_field}
 use Rattle.salvage_reports.specs.Fields.{why_field}
 use Rattle.salvage_reports.specs.TreatedReadBack.{AreRowsReadBack}
-use Rattle.salvage_reports.specs.TreatedRows.{run_fields}
+use Rattle.salvage_reports.specs.TreatedRows.{columns, run_fields}
 use Rattle.salvage_reports.specs.declared.hart_rows.TreatedInRows.{TreatedInRows}
 
 word_plain : (one : Treatment) → IsPlain (treatment_field one)
@@ -76,6 +76,7 @@ done_written read all =
     λ i. plain_field waits (taken_plain (read_waits read) one) i
     ∷ plain_field closes (taken_plain (read_closes read) one) i
     ∷ plain_field (treatment_field one) (word_plain one) i ∷ why_is one i
+    ∷ plain_field (flag_field treated.far) (flag_plain treated.far) i
     ∷ plain_field (flag_field treated.late) (flag_plain treated.late) i ∷ []
     ∷ plain_field (count_field one) (count_plain one) i
     ∷ plain_field (row_field first_settled) (row_plain first_settled) i
@@ -84,6 +85,7 @@ done_written read all =
 
 pub are_rows_read_back : AreRowsReadBack
 are_rows_read_back = record {
+  names = plain_read columns tt refl;
   message = λ symbols mode at offset message one.
       message_read mode at offset message (done_fields (λ field. field) (reading message.payload) one)
       (done_fields quoted_field (reading message.payload) one) (done_written (reading message.payload) one)

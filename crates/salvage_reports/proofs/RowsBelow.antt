@@ -1,7 +1,7 @@
 -- How many rows are added below a key, of lists in order and with their sums.
 use Rattle.std.proofs.Common.{◌≡◌, ◌∙◌, ◌+◌, ◌-◌, ◌*◌, ◌^◌, ◌<◌, ◌≤◌, ◌++◌, ℕ, zero, suc, List, [], ◌∷◌, ap, arith}
 use Rattle.std.proofs.Common.{get_or, length, map, take, refl, sym}
-use Rattle.std.specs.Prelude.{◌⊎◌, ◌&&◌, ◌==◌, All, if◌then◌else◌, nat_le, nat_lt, sum_by}
+use Rattle.std.specs.Prelude.{◌&&◌, ◌==◌, All, if◌then◌else◌, nat_le, nat_lt, sum_by}
 use Rattle.std.specs.List.Sorted.{IsNonDecreasingBy, IsPermutation}
 use Rattle.std.proofs.lemmas.Bool.{le-ltb, lt-ltb}
 use Rattle.std.proofs.lemmas.Bool.Decides.{nat_tests}

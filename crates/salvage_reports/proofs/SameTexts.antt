@@ -1,11 +1,9 @@
 -- The text of what was found is that of what is salvaged, by the offsets of the capture's frames.
 use Rattle.std.proofs.Common.{◌≡◌, refl, ℕ, zero, suc, ◌+◌, ◌<◌, ◌≤◌, ◌++◌, List, [], ◌∷◌, Option, Some, ap, arith, length}
 use Rattle.std.proofs.Common.{slice_get, ◌∙◌}
-use Rattle.std.specs.declared.alloc.Global.{Global}
 use Rattle.frames.specs.declared.span.Span.{Span}
 use Rattle.message.specs.declared.range.HartRange.{HartRange}
 use Rattle.rvclass.specs.Image.{Image}
-use Rattle.salvaging.specs.declared.salvaged.SalvagedHart.{SalvagedHart}
 use Rattle.frames.specs.Search.{chosen}
 use Rattle.frames.specs.Start.{spans_of}
 use Rattle.parallel_decode.specs.EachHart.{joined_harts}

@@ -18,14 +18,14 @@ use Rattle.salvage_reports.specs.Fields.{done_fields, first_place, last_place}
 some : (event : Event) (events : List Event) → (length (event ∷ events) == 0) ≡ false
 some event events = ne_eqb (length (event ∷ events)) 0 (λ e. absurd (omega (arith, e)))
 
-fields_are : (written : List ℕ → List ℕ) (read : Result Packet PackFault) (events : List Event) (late : Bool) (rows : ℕ)
+fields_are : (written : List ℕ → List ℕ) (read : Result Packet PackFault) (events : List Event) (far late : Bool) (rows : ℕ)
     → done_fields written read
-    (record { treated = record { treatment = treatment_of (Adds events); late = late }; rows = rows })
-    ≡ flag_field (read_waits read) ∷ flag_field (read_closes read) ∷ codes "taken" ∷ written [] ∷ flag_field late ∷ []
-    ∷ decimal (length events) ∷ row_field (first_row rows (length events))
+    (record { treated = record { treatment = treatment_of (Adds events); far = far; late = late }; rows = rows })
+    ≡ flag_field (read_waits read) ∷ flag_field (read_closes read) ∷ codes "taken" ∷ written [] ∷ flag_field far
+    ∷ flag_field late ∷ [] ∷ decimal (length events) ∷ row_field (first_row rows (length events))
     ∷ row_field (last_row rows (length events)) ∷ place_field (first_of events) ∷ place_field (last_of events) ∷ []
-fields_are written read [] late rows = refl
-fields_are written read (event ∷ events) late rows = rw (some event events) refl
+fields_are written read [] far late rows = refl
+fields_are written read (event ∷ events) far late rows = rw (some event events) refl
 
 first_is : (events : List Event) → first_place (treatment_of (Adds events)) ≡ first_of events
 first_is [] = refl

@@ -12,7 +12,7 @@ use Rattle.message.specs.declared.message.Message.{Message}
 use Rattle.listing.specs.Lines.{text_with}
 use Rattle.salvage_reports.specs.declared.hart_rows.TreatedInRows.{TreatedInRows}
 use Rattle.salvage_reports.specs.Lines.{treated_line}
-use Rattle.salvage_reports.specs.Words.{late_text, word_text}
+use Rattle.salvage_reports.specs.Words.{far_text, late_text, word_text}
 
 module _ (shows : Bool) (symbols : Option (List ℕ)) (mode : Mode) (offset : ℕ) (message : Message) (one : TreatedInRows)
     (read : Result Packet PackFault) (same : read ≡ reading message.payload) where
@@ -23,7 +23,7 @@ module _ (shows : Bool) (symbols : Option (List ℕ)) (mode : Mode) (offset : �
   word = word_text shows symbols read one.rows one.treated.treatment
 
   abbrev tail : List ℕ
-  tail = late_text one.treated.late ++ codes "\n"
+  tail = far_text one.treated.far ++ (late_text one.treated.late ++ codes "\n")
 
   abbrev line : List ℕ
   line = treated_line shows symbols mode offset message one

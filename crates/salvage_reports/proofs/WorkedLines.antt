@@ -22,12 +22,15 @@ symbols = Some (codes "80000004 t loop\n80000000 T _start\n")
 abbrev message : ℕ → ℕ → List ℕ → Message
 message hart number payload = record { hart = hart; number = number; payload = payload }
 
--- In time, or late.
+-- In time, far, or late.
 abbrev in_time : Treatment → TreatedInRows
-in_time one = record { treated = record { treatment = one; late = false }; rows = 4 }
+in_time one = record { treated = record { treatment = one; far = false; late = false }; rows = 4 }
+
+abbrev far : Treatment → TreatedInRows
+far one = record { treated = record { treatment = one; far = true; late = false }; rows = 4 }
 
 abbrev late : Treatment → TreatedInRows
-late one = record { treated = record { treatment = one; late = true }; rows = 4 }
+late one = record { treated = record { treatment = one; far = false; late = true }; rows = 4 }
 
 -- The payloads of a packet that opens a trace, one that synchronises it, one that waits, one that closes it, and none.
 abbrev opening : List ℕ
@@ -50,7 +53,8 @@ spans =
     Frame 16 (message 0 0 opening) ∷ Frame 28 (message 0 1 synchronising) ∷ Frame 44 (message 0 2 waiting)
     ∷ Bytes 56 3 ∷ Frame 59 (message 0 3 closing) ∷ Frame 72 (message 0 1 synchronising)
     ∷ Frame 88 (message 0 7 unsupported) ∷ Frame 101 (message 0 5 waiting) ∷ Frame 113 (message 1 8 closing)
-    ∷ Frame 126 (message 1 9 opening) ∷ Frame 138 (message 1023 4 opening) ∷ Bytes 150 1 ∷ []
+    ∷ Frame 126 (message 1 9 opening) ∷ Frame 138 (message 1023 4 opening) ∷ Bytes 150 1
+    ∷ Frame 151 (message 0 900 synchronising) ∷ Frame 167 (message 0 800 waiting) ∷ []
 
 abbrev treated : List TreatedInRows
 treated =
@@ -58,8 +62,9 @@ treated =
     ∷ in_time (treatment.Taken (record { count = 1; first = 0x8000_0000; last = 0x8000_0000 }))
     ∷ late (treatment.Taken (record { count = 0; first = 0; last = 0 }))
     ∷ late (treatment.Taken (record { count = 3; first = 0x8000_0004; last = 0x8000_0008 }))
-    ∷ in_time treatment.Copy ∷ late (treatment.Bad (Packet Unsupported)) ∷ in_time treatment.Doubtful
-    ∷ late treatment.Passed ∷ in_time treatment.Alone ∷ in_time treatment.Stranger ∷ []
+    ∷ in_time treatment.Copy ∷ in_time (treatment.Bad (Packet Unsupported)) ∷ in_time treatment.Doubtful
+    ∷ late treatment.Passed ∷ in_time treatment.Alone ∷ in_time treatment.Stranger
+    ∷ far (treatment.Taken (record { count = 1; first = 0x8000_0000; last = 0x8000_0000 })) ∷ far treatment.Passed ∷ []
 
 each_word : spans_text (Lines false) (λ span. true) None Differential 0 spans treated
     ≡ codes "00000010 0 0 open => nothing\n"
@@ -68,11 +73,13 @@ each_word : spans_text (Lines false) (λ span. true) None Differential 0 spans t
     ++ (codes "00000038 bytes: 3\n"
     ++ (codes "0000003b 0 3 close ended_ntr => 3 events, 80000004 to 80000008, closed, late\n"
     ++ (codes "00000048 0 1 sync addr=80000000 priv=3 branch=1 => copy\n"
-    ++ (codes "00000058 0 7 bad Unsupported => bad: bad packet: Unsupported, late\n"
+    ++ (codes "00000058 0 7 bad Unsupported => bad: bad packet: Unsupported\n"
     ++ (codes "00000065 0 5 address diff=8 map=- plain => doubtful\n"
     ++ (codes "00000071 1 8 close ended_ntr => passed, late\n"
     ++ (codes "0000007e 1 9 open => alone\n"
-    ++ (codes "0000008a 1023 4 open => stranger\n" ++ codes "00000096 bytes: 1\n"))))))))))
+    ++ (codes "0000008a 1023 4 open => stranger\n" ++ (codes "00000096 bytes: 1\n"
+    ++ (codes "00000097 0 900 sync addr=80000000 priv=3 branch=1 => 1 event, 80000000, far\n"
+    ++ codes "000000a7 0 800 address diff=8 map=- plain => passed, far\n"))))))))))))
 unfolding digits extended magnitude
 each_word = refl
 
@@ -80,11 +87,11 @@ each_word = refl
 with_a_header : treated_text (Lines true) symbols (Some (record { mode = Full; period = 64; harts = 2 }))
     (Frame 16 (message 1 0 waiting) ∷ Frame 28 (message 1 1 closing) ∷ Frame 41 (message 1 2 closing) ∷ [])
     (in_time (treatment.Taken (record { count = 2; first = 0x8000_0000; last = 0x8000_0006 }))
-    ∷ in_time (treatment.Bad (Closing 2)) ∷ late (treatment.Bad (Decode WrongPlace)) ∷ [])
+    ∷ in_time (treatment.Bad (Closing 2)) ∷ in_time (treatment.Bad (Decode WrongPlace)) ∷ [])
     ≡ codes "capture 2 mode=full period=64 harts=2\n"
     ++ (codes "00000010 1 0 address addr=8 map=- plain => 2 events, 80000000 <_start+0> to 80000006 <loop+2>, rows 3 to 4, waits\n"
     ++ (codes "0000001c 1 1 close ended_ntr => bad: closing, but number 2 came\n"
-    ++ codes "00000029 1 2 close ended_ntr => bad: not decoded: WrongPlace, late\n"))
+    ++ codes "00000029 1 2 close ended_ntr => bad: not decoded: WrongPlace\n"))
 unfolding digits extended magnitude
 with_a_header = refl
 

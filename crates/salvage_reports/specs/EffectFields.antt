@@ -12,13 +12,13 @@ use Rattle.salvaging.specs.Treatments.{treatment_of}
 use Rattle.salvage_reports.specs.Fields.{done_fields, first_place, last_place}
 
 -- A message that adds events has the fields that a listing has for that effect, with what is done with it and whether it is
--- late between them, and the names of the same places.
+-- far or late between them, and the names of the same places.
 pub record TakenHaveTheirEffect : Type 0 where
-  pub fields : (written : List ℕ → List ℕ) (read : Result Packet PackFault) (events : List Event) (late : Bool) (rows : ℕ)
+  pub fields : (written : List ℕ → List ℕ) (read : Result Packet PackFault) (events : List Event) (far late : Bool) (rows : ℕ)
       → done_fields written read
-      (record { treated = record { treatment = treatment_of (Adds events); late = late }; rows = rows })
-      ≡ flag_field (read_waits read) ∷ flag_field (read_closes read) ∷ codes "taken" ∷ written [] ∷ flag_field late ∷ []
-      ∷ decimal (length events) ∷ row_field (first_row rows (length events))
+      (record { treated = record { treatment = treatment_of (Adds events); far = far; late = late }; rows = rows })
+      ≡ flag_field (read_waits read) ∷ flag_field (read_closes read) ∷ codes "taken" ∷ written [] ∷ flag_field far
+      ∷ flag_field late ∷ [] ∷ decimal (length events) ∷ row_field (first_row rows (length events))
       ∷ row_field (last_row rows (length events)) ∷ place_field (first_of events) ∷ place_field (last_of events) ∷ []
   pub first : (events : List Event) → first_place (treatment_of (Adds events)) ≡ first_of events
   pub last : (events : List Event) → last_place (treatment_of (Adds events)) ≡ last_of events

@@ -52,13 +52,13 @@ last_place other = None
 
 -- The fields after those of the packet, which a payload unpacks to, and before the names of places: whether a packet that
 -- is taken waits for the one that follows it, and whether it closes its hart; what is done with the message, and why it is
--- bad; whether it is late; how many events it adds, which rows they are of its hart, and the places of the first and of
--- the last of them.
+-- bad; whether it is far, and whether it is late; how many events it adds, which rows they are of its hart, and the places
+-- of the first and of the last of them.
 abbrev pub done_fields : (List ℕ → List ℕ) → Result Packet PackFault → TreatedInRows → List (List ℕ)
 done_fields written read one =
     let treated = one.treated in
     taken_flag (read_waits read) treated.treatment ∷ taken_flag (read_closes read) treated.treatment
-    ∷ treatment_field treated.treatment ∷ why_field written treated.treatment ∷ flag_field treated.late ∷ []
-    ∷ count_field treated.treatment ∷ row_field (first_row one.rows (taken_by treated.treatment))
+    ∷ treatment_field treated.treatment ∷ why_field written treated.treatment ∷ flag_field treated.far
+    ∷ flag_field treated.late ∷ [] ∷ count_field treated.treatment ∷ row_field (first_row one.rows (taken_by treated.treatment))
     ∷ row_field (last_row one.rows (taken_by treated.treatment)) ∷ place_field (first_place treated.treatment)
     ∷ place_field (last_place treated.treatment) ∷ []

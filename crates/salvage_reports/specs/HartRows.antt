@@ -1,6 +1,8 @@
 -- Which rows of its hart a message settles, over what salvaging leaves of the hart, in the order of the numbers.
-use Rattle.std.specs.Prelude.{ℕ, ◌==◌, ◌&&◌, ◌-◌, ◌^◌, Bool, if◌then◌else◌, List, map, min, nat_le, sum_by}
+use Rattle.std.specs.Prelude.{ℕ, ◌==◌, ◌&&◌, ◌-◌, ◌^◌, Bool, true, if◌then◌else◌, List, map, min, nat_le, sum_by}
 use Rattle.std.specs.List.{zip}
+use Rattle.listing.specs.declared.form.Form.{Form}
+use Rattle.listing.specs.declared.form.Form.TheVariants.{Lines, Table}
 use Rattle.message.specs.declared.message.Message.{Message}
 use Rattle.salvaging.specs.TreatedParts.{taken_by}
 use Rattle.salvaging.specs.declared.treatment.Treated.{Treated}
@@ -23,6 +25,19 @@ abbrev pub in_row : List (Message × Treated) → Message × Treated → Treated
 in_row all one =
     record { treated = one.1; rows = min (rows_up_to one.0.hart one.0.number all) (2 ^ 64 - 1) }
 
+-- What is done with a message, where rows are not to be said.
+abbrev pub without_rows : Message × Treated → TreatedInRows
+without_rows one = record { treated = one.1; rows = 0 }
+
+-- The form says which rows a message settles.
+abbrev pub says_rows : Form → Bool
+says_rows (Lines rows) = rows
+says_rows Table = true
+
+-- What is done with one of these messages, and its rows, where the form says them.
+abbrev pub in_form : Form → List (Message × Treated) → Message × Treated → TreatedInRows
+in_form form all one = if says_rows form then in_row all one else without_rows one
+
 -- The same of each of these messages, with which this is done, in their order.
-abbrev pub in_rows : List Message → List Treated → List TreatedInRows
-in_rows messages treated = map (in_row (zip messages treated)) (zip messages treated)
+abbrev pub in_rows : Form → List Message → List Treated → List TreatedInRows
+in_rows form messages treated = map (in_form form (zip messages treated)) (zip messages treated)

@@ -1,5 +1,5 @@
 -- What is salvaged of a capture that may be damaged, in a layout.
-use Rattle.std.specs.Prelude.{ℕ, ◌++◌, List, [], Option, length}
+use Rattle.std.specs.Prelude.{ℕ, ◌++◌, List, [], ◌∷◌, Option, length}
 use Rattle.std.specs.List.{flat_map}
 use Rattle.std.specs.declared.alloc.Global.{Global}
 use Rattle.parallel_decode.specs.EachHart.{joined_harts}
@@ -13,14 +13,15 @@ use Rattle.retire.specs.LogText.{log_text}
 use Rattle.retire.specs.declared.event.Event.{Event}
 use Rattle.salvaging.specs.LeftParts.{LeftPart, Events}
 use Rattle.salvaging.specs.PartsIn.{parts_in}
-use Rattle.salvaging.specs.declared.part.Part.{Part}
+use Rattle.salvaging.specs.declared.far_number.FarNumber.{FarNumber}
 use Rattle.salvaging.specs.declared.salvaged.Salvaged.{Salvaged}
 use Rattle.salvaging.specs.declared.salvaged.SalvagedHart.{SalvagedHart}
 use Rattle.salvage_reports.specs.Frames.{messages_in}
 use Rattle.salvage_reports.specs.HartItems.{items_of}
 use Rattle.salvage_reports.specs.Offsets.{offsets_in, own_offsets}
-use Rattle.salvage_reports.specs.SalvagedItems.{columns, counted_of, item_of, item_text, run_of, said_of, strangers_of}
+use Rattle.salvage_reports.specs.SalvagedItems.{columns, counted_of, item_text, run_of, said_of, strangers_of}
 use Rattle.salvage_reports.specs.SalvagedItems.{text_if}
+use Rattle.salvage_reports.specs.ShownParts.{gone_after, none_gone, shown_item}
 use Rattle.salvage_reports.specs.StretchEnds.{stretch_end}
 use Rattle.salvage_reports.specs.Totals.{totals_text}
 use Rattle.salvage_reports.specs.declared.found.Found.{Found}
@@ -28,6 +29,7 @@ use Rattle.salvage_reports.specs.declared.found_writing.Layout.{Layout}
 use Rattle.salvage_reports.specs.declared.found_writing.Layout.TheVariants.{Summary, Table, Text}
 use Rattle.salvage_reports.specs.declared.salvaged_items.Counted.TheVariants as counted
 use Rattle.salvage_reports.specs.declared.salvaged_items.Item.TheVariants as item
+use Rattle.salvage_reports.specs.declared.shown_parts.Gone.{Gone}
 
 -- The text of a stretch's log. In a summary and in a table there is none.
 abbrev pub rows_text : Layout → List Event → List ℕ
@@ -55,14 +57,23 @@ end_of layout symbols other = []
 abbrev pub behind_item : Layout → Option (List ℕ) → LeftPart → List ℕ
 behind_item layout symbols part = end_of layout symbols part ++ log_of layout part
 
--- The item of a part of this hart's log, the end of a stretch's line, and the log of a stretch.
-abbrev pub part_text : Layout → Option (List ℕ) → ℕ → List ℕ → LeftPart → List ℕ
-part_text layout symbols hart offsets part =
-    item_text layout (item_of hart offsets part) ++ behind_item layout symbols part
+-- What is said of a part of this hart's log, the end of a stretch's line, and the log of a stretch. So many of the hart's
+-- gaps and of its far numbers were before the part.
+abbrev pub part_text : Layout → Option (List ℕ) → ℕ → List ℕ → List ℕ → List FarNumber → Gone → LeftPart → List ℕ
+part_text layout symbols hart offsets gaps far gone part =
+    text_if layout (shown_item hart offsets gaps far gone part) ++ behind_item layout symbols part
 
 -- The texts of the parts, in order.
-abbrev pub parts_text : Layout → Option (List ℕ) → ℕ → List ℕ → List (Part Global) → List ℕ
-parts_text layout symbols hart offsets parts = flat_map (part_text layout symbols hart offsets) (parts_in parts)
+abbrev pub texts_from : Layout → Option (List ℕ) → ℕ → List ℕ → List ℕ → List FarNumber → Gone → List LeftPart → List ℕ
+texts_from layout symbols hart offsets gaps far gone [] = []
+texts_from layout symbols hart offsets gaps far gone (part ∷ parts) =
+    part_text layout symbols hart offsets gaps far gone part
+    ++ texts_from layout symbols hart offsets gaps far (gone_after gaps far gone part) parts
+
+-- Those of all parts of a hart.
+abbrev pub parts_text : Layout → Option (List ℕ) → ℕ → List ℕ → SalvagedHart Global → List ℕ
+parts_text layout symbols hart offsets own =
+    texts_from layout symbols hart offsets own.gaps.items own.far.items none_gone (parts_in own.parts.items)
 
 -- How many of a hart's messages are copies and how many are late.
 abbrev pub counts_text : Layout → ℕ → SalvagedHart Global → List ℕ
@@ -74,7 +85,7 @@ counts_text layout hart own =
 abbrev pub hart_text : Layout → Option (List ℕ) → Option Header → ℕ → List ℕ → SalvagedHart Global → List ℕ
 hart_text layout symbols header hart offsets own =
     item_text layout (item.Hart hart own.mode own.closed) ++ (text_if layout (said_of hart header own.mode)
-    ++ (parts_text layout symbols hart offsets own.parts.items ++ counts_text layout hart own))
+    ++ (parts_text layout symbols hart offsets own ++ counts_text layout hart own))
 
 -- What comes before the harts: in a table the names of its columns.
 abbrev pub front_text : Layout → List ℕ

@@ -2,12 +2,14 @@ pub mod MessagesLine
 pub mod HartItems
 pub mod Frames
 pub mod SalvagedItems
+pub mod ShownParts
 pub mod StretchEnds
 pub mod Totals
 pub mod Layouts
 pub mod Damage
 pub mod Found
 pub mod Salvaged
+pub mod TotalsAddUp
 pub mod HartRows
 pub mod steps
 pub mod Words

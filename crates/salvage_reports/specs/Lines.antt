@@ -7,15 +7,15 @@ use Rattle.message.specs.declared.message.Message.{Message}
 use Rattle.captures.specs.Offsets.{offset_text}
 use Rattle.listing.specs.Lines.{message_text}
 use Rattle.salvage_reports.specs.declared.hart_rows.TreatedInRows.{TreatedInRows}
-use Rattle.salvage_reports.specs.Words.{late_text, word_text}
+use Rattle.salvage_reports.specs.Words.{far_text, late_text, word_text}
 
--- The line of a message with which this is done: its text as a listing begins it, the word, and whether it is late.
+-- The line of a message with which this is done: its text as a listing begins it, the word, and whether it is far or late.
 abbrev pub treated_line : Bool → Option (List ℕ) → Mode → ℕ → Message → TreatedInRows → List ℕ
 treated_line shows symbols mode offset message one =
     message_text mode offset message ++
     (codes " => " ++
     (word_text shows symbols (reading message.payload) one.rows one.treated.treatment
-    ++ (late_text one.treated.late ++ codes "\n")))
+    ++ (far_text one.treated.far ++ (late_text one.treated.late ++ codes "\n"))))
 
 -- The line of bytes that belong to no frame: the offset of the first, and how many there are.
 abbrev pub run_line : ℕ → ℕ → List ℕ

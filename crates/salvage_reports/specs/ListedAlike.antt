@@ -24,9 +24,9 @@ use Rattle.salvaging.specs.declared.treatment.Treatment.TheVariants as treatment
 use Rattle.salvage_reports.specs.HartRows.{in_rows}
 use Rattle.salvage_reports.specs.TreatedText.{treated_text}
 
--- A message that has this effect is taken, and is not late: it adds the events of the effect.
+-- A message that has this effect is taken, and is neither far nor late: it adds the events of the effect.
 abbrev pub taken_with : Effect → Treated
-taken_with effect = record { treatment = treatment.Taken (added_of effect.added); late = false }
+taken_with effect = record { treatment = treatment.Taken (added_of effect.added); far = false; late = false }
 
 -- A demultiplexer accepts messages of so many harts, one after the other, and they have these effects. Then salvaging
 -- takes each of them with its effect, whatever mode is handed in.
@@ -46,7 +46,7 @@ CapturesAreListedAlike =
     → IsWhole bytes header messages
     → All (IsFrame (known_harts header)) messages
     → AreTreated words mode (harts_counted (Some harts) header bytes) messages treated
-    → treated_text (Lines false) symbols header (spans_of header bytes) (in_rows messages treated) ≡ text
+    → treated_text (Lines false) symbols header (spans_of header bytes) (in_rows (Lines false) messages treated) ≡ text
 
 -- The messages of legal logs of one program, long ones among them, as an encoder writes them: those of each hart in
 -- order, one hart after the other. They have effects, and salvaging takes each of them with its effect, whatever mode is

@@ -87,6 +87,8 @@ item_line (item.Doubtful hart number first second) =
     ++ (codes " and " ++ (offset_text second ++ codes "\n")))))
 item_line (item.Alone hart number offset) =
     codes "alone: number " ++ (decimal number ++ (codes " at " ++ (offset_text offset ++ codes "\n")))
+item_line (item.Far hart number offset) =
+    codes "far: number " ++ (decimal number ++ (codes " at " ++ (offset_text offset ++ codes "\n")))
 item_line (item.Run offset count) = bytes_line offset count
 item_line (item.Strangers count) = messages_line (codes "strangers") count
 item_line (item.All what count harts messages) = total_piece what count harts messages
@@ -113,6 +115,8 @@ item_fields written (item.Doubtful hart number first second) =
     codes "doubtful" ∷ decimal hart ∷ decimal number ∷ [] ∷ [] ∷ offset_text first ∷ offset_text second ∷ [] ∷ [] ∷ [] ∷ []
 item_fields written (item.Alone hart number offset) =
     codes "alone" ∷ decimal hart ∷ decimal number ∷ [] ∷ [] ∷ offset_text offset ∷ [] ∷ [] ∷ [] ∷ [] ∷ []
+item_fields written (item.Far hart number offset) =
+    codes "far" ∷ decimal hart ∷ decimal number ∷ [] ∷ [] ∷ offset_text offset ∷ [] ∷ [] ∷ [] ∷ [] ∷ []
 item_fields written (item.Run offset count) =
     codes "bytes" ∷ [] ∷ [] ∷ [] ∷ decimal count ∷ offset_text offset ∷ [] ∷ [] ∷ [] ∷ [] ∷ []
 item_fields written (item.Strangers count) =

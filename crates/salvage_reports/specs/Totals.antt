@@ -4,6 +4,7 @@ use Rattle.std.specs.List.{flat_map}
 use Rattle.std.specs.declared.alloc.Global.{Global}
 use Rattle.frames.specs.declared.span.Span.{Span}
 use Rattle.frames.specs.declared.span.Span.TheVariants.{Frame, Bytes}
+use Rattle.salvaging.specs.FarGaps.{far_passed, far_taken}
 use Rattle.salvaging.specs.LeftParts.{LeftPart}
 use Rattle.salvaging.specs.PartsIn.{parts_in}
 use Rattle.salvaging.specs.TreatedCounts.{is_alone_number, is_bad_number}
@@ -26,11 +27,12 @@ part_count total.Bad part = if is_bad_number part then 1 else 0
 part_count total.Alone part = if is_alone_number part then 1 else 0
 part_count other part = 0
 
--- What is counted of a hart.
+-- What is counted of a hart. A far number is not counted once more where it is decoded or passed over.
 abbrev pub hart_count : Total → SalvagedHart Global → ℕ
 hart_count total.Rows own = sum_by (part_count total.Rows) (parts_in own.parts.items)
-hart_count total.Decoded own = own.decoded
-hart_count total.Passed own = own.passed
+hart_count total.Decoded own = own.decoded - far_taken own.far.items
+hart_count total.Passed own = own.passed - far_passed own.far.items
+hart_count total.Far own = far_taken own.far.items + far_passed own.far.items
 hart_count total.Bad own = sum_by (part_count total.Bad) (parts_in own.parts.items)
 hart_count total.Alone own = sum_by (part_count total.Alone) (parts_in own.parts.items)
 hart_count total.Doubtful own = own.doubtful

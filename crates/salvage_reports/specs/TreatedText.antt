@@ -4,7 +4,6 @@ use Rattle.frames.specs.Search.{is_chosen, mode_of, start_line}
 use Rattle.frames.specs.Start.{spans_of}
 use Rattle.frames.specs.declared.span.Span.{Span}
 use Rattle.frames.specs.declared.span.Span.TheVariants.{Frame, Bytes}
-use Rattle.listing.specs.Rows.{columns}
 use Rattle.listing.specs.declared.form.Form.{Form}
 use Rattle.listing.specs.declared.form.Form.TheVariants.{Lines, Table}
 use Rattle.message.specs.Header.{IsHeader}
@@ -15,7 +14,7 @@ use Rattle.message.specs.declared.range.HartRange.{HartRange}
 use Rattle.output.specs.Fields.{fields_line}
 use Rattle.payload.specs.declared.mode.Mode.{Mode}
 use Rattle.salvage_reports.specs.Lines.{run_line, treated_line}
-use Rattle.salvage_reports.specs.TreatedRows.{run_row, treated_row}
+use Rattle.salvage_reports.specs.TreatedRows.{columns, run_row, treated_row}
 use Rattle.salvage_reports.specs.declared.hart_rows.TreatedInRows.{TreatedInRows}
 
 -- The line or the row of a message with which this is done. So many messages come before it.

@@ -27,6 +27,11 @@ word_text shows symbols read rows treatment.Alone = codes "alone"
 word_text shows symbols read rows treatment.Passed = codes "passed"
 word_text shows symbols read rows (treatment.Taken added) = taken_text shows symbols read rows added
 
+-- What follows the word of a message that is far.
+abbrev pub far_text : Bool → List ℕ
+far_text true = codes ", far"
+far_text false = []
+
 -- What follows the word of a message that is late.
 abbrev pub late_text : Bool → List ℕ
 late_text true = codes ", late"

@@ -31,6 +31,7 @@ impl fmt::Display for DoneCells<'_> {
         let closes = taken_flag(read_closes(self.read), treatment);
         let word = treatment_field(treatment);
         let why = WhyField(treatment);
+        let far = flag_field(self.one.treated.far);
         let late = flag_field(self.one.treated.late);
         let count = CountField(treatment);
         let rows = RowCells(SettledRows {
@@ -41,7 +42,7 @@ impl fmt::Display for DoneCells<'_> {
         let last = Place(last_place(treatment));
         write!(
             f,
-            "{waits},{closes},{word},{why},{late},,{count},{rows},{first},{last},"
+            "{waits},{closes},{word},{why},{far},{late},,{count},{rows},{first},{last},"
         )
     }
 }

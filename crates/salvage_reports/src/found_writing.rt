@@ -5,18 +5,19 @@ ghost use Rattle.std.specs.Io.KnownBytes.{Appends};
 ghost use Rattle.std.specs.List.{flat_map};
 ghost use Rattle.parallel_decode.specs.EachHart.{joined_harts};
 ghost use Rattle.output.specs.Begun.{AppendsBeginning};
-ghost use Rattle.salvaging.specs.PartsIn.{part_of};
+ghost use Rattle.salvaging.specs.PartsIn.{part_of, parts_in};
 ghost use Rattle.salvage_reports.specs.Layouts.{behind_item, counts_text, end_of, found_as, front_text, log_of};
-ghost use Rattle.salvage_reports.specs.Layouts.{parts_text, rest_text, run_text};
+ghost use Rattle.salvage_reports.specs.Layouts.{rest_text, run_text, texts_from};
 ghost use Rattle.salvage_reports.specs.SalvagedItems.{item_text, text_if};
+ghost use Rattle.salvage_reports.specs.ShownParts.{none_gone};
 ghost use Rattle.salvage_reports.specs.steps.Harts.{ending_text, own_text, own_total};
 
 use crate::found::Found;
 use crate::offsets::offsets_of;
 use crate::salvaged_items::{
-    Columns, Counted, Item, ItemLine, ItemRow, Total, counted_of, item_of, run_of, said_of,
-    strangers_of,
+    Columns, Counted, Item, ItemLine, ItemRow, Total, counted_of, run_of, said_of, strangers_of,
 };
+use crate::shown_parts::{Gone, Reported, gone_after, shown_item};
 use crate::stretch_ends::write_stretch_end;
 use crate::totals::total_of;
 use frames::{Spans, spans_of};
@@ -236,7 +237,13 @@ fn write_hart<O: Write>(
     let offsets = offsets_of(found.frames.offsets.as_slice(), hart);
     write_item(style.layout, head, out)?;
     write_if(style.layout, said_of(hart, found.header, own.mode), out)?;
-    write_parts(style, room, hart, offsets, own.parts.as_slice(), out)?;
+    let reported = Reported {
+        hart,
+        offsets,
+        gaps: own.gaps.as_slice(),
+        far: own.far.as_slice(),
+    };
+    write_parts(style, room, reported, own.parts.as_slice(), out)?;
     write_counts(style.layout, hart, own, out)
 }
 
@@ -244,23 +251,26 @@ fn write_hart<O: Write>(
 fn write_parts<O: Write>(
     style: Style<'_>,
     room: &mut Vec<u8>,
-    hart: usize,
-    offsets: &[usize],
+    reported: Reported<'_>,
     parts: &[Part],
     out: &mut O,
 ) -> Result<(), WriteFault>
     requires { LOG_ROOM ≤ vec_capacity room.old }
     ensures fault { IfErr result (λ fault. fault ≡ WriteFault.Write) }
     ensures text { OnOk result (Appends (O.contents out.old) (O.contents out.new)
-        (parts_text style.entry.layout (option_map (λ file. file.now) style.entry.symbols) hart offsets.now parts.now)) }
+        (texts_from style.entry.layout (option_map (λ file. file.now) style.entry.symbols) reported.entry.hart
+        reported.entry.offsets.now reported.entry.gaps.now reported.entry.far.now none_gone (parts_in parts.now))) }
     ensures begun { AppendsBeginning
-        (parts_text style.entry.layout (option_map (λ file. file.now) style.entry.symbols) hart offsets.now parts.now)
+        (texts_from style.entry.layout (option_map (λ file. file.now) style.entry.symbols) reported.entry.hart
+        reported.entry.offsets.now reported.entry.gaps.now reported.entry.far.now none_gone (parts_in parts.now))
         (O.contents out.old) (O.contents out.new) }
     ensures room { vec_capacity room.old ≤ vec_capacity room.new }
 {
+    let mut gone = Gone { gaps: 0, far: 0 };
     for part in parts {
-        write_item(style.layout, item_of(hart, offsets, part), out)?;
+        write_if(style.layout, shown_item(reported, gone, part), out)?;
         write_behind(style, room, part, out)?;
+        gone = gone_after(reported, gone, part);
     }
     Ok(())
 }

@@ -1,6 +1,6 @@
 //! The messages of a damaged capture, found among its bytes.
 
-ghost use Rattle.std.specs.Prelude.{ℕ, ◌≡◌, All, IfOk, OnOk, [], length};
+ghost use Rattle.std.specs.Prelude.{◌≡◌, All, IfOk, OnOk, [], length};
 ghost use Rattle.frames.specs.Search.{chosen, is_chosen};
 ghost use Rattle.salvage_reports.specs.Frames.{AreFrames};
 ghost use Rattle.salvage_reports.specs.steps.Reading.{AddsFrame, AddsOffset, AddsWhere};

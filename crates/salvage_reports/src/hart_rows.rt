@@ -1,15 +1,16 @@
 //! Which rows of its hart each message settles, over what salvaging leaves of the hart.
 
-ghost use Rattle.std.specs.Prelude.{◌≡◌, ◌<◌, ◌+◌, ◌-◌, ◌^◌, All, IfOk, List, min};
+ghost use Rattle.std.specs.Prelude.{◌≡◌, ◌<◌, ◌+◌, ◌-◌, ◌^◌, All, IfOk, List, map, min};
 ghost use Rattle.std.specs.List.{zip};
 ghost use Rattle.std.specs.List.Sorted.{IsNonDecreasingBy, IsPermutation};
 ghost use Rattle.message.specs.declared.message.Message.{Message as AnyMessage};
 ghost use Rattle.salvaging.specs.TreatedParts.{taken_by};
 ghost use Rattle.salvaging.specs.declared.treatment.Treated.{Treated as AnyTreated};
-ghost use Rattle.salvage_reports.specs.HartRows.{in_row, in_rows};
+ghost use Rattle.salvage_reports.specs.HartRows.{in_row, in_rows, without_rows};
 ghost use Rattle.salvage_reports.specs.steps.Counted.{HasNumber, all_counted, counted_of, key_in, key_of, rows_below};
 ghost use Rattle.salvage_reports.specs.steps.Counted.{summed};
 
+use listing::Form;
 use message::Message;
 use salvaging::{Treated, Treatment};
 use std::alloc::{AllocError, Allocator};
@@ -19,7 +20,8 @@ use std::alloc::{AllocError, Allocator};
 pub struct TreatedInRows {
     /// What is done with it.
     pub treated: Treated,
-    /// How many rows all messages leave of its hart up to its number, or 2^64 - 1 if there are more.
+    /// How many rows all messages leave of its hart up to its number, or 2^64 - 1 if there are more; 0 where rows are not
+    /// to be said.
     pub rows: usize,
 }
 
@@ -39,17 +41,52 @@ pub(crate) struct Summed {
     pub(crate) rows: u128,
 }
 
-/// What is done with each of these messages, and how many rows all of them leave of its hart up to its number: in the
-/// order of the numbers, as [`write_found`](crate::write_found) prints them. The lists are as long as each other; of a
-/// longer one the rest is passed over.
+/// What is done with each of these messages, and, where the form says rows, how many rows all of them leave of its hart up
+/// to its number: in the order of the numbers, as [`write_found`](crate::write_found) prints them. The lists are as long as
+/// each other; of a longer one the rest is passed over.
 ///
-/// The error says that an allocation failed. The time is that of sorting the messages.
+/// The error says that an allocation failed. The time is that of sorting the messages, where the form says rows.
 pub fn in_rows<A: Allocator + Copy>(
+    alloc: A,
+    form: Form,
+    messages: &[Message],
+    treated: &[Treated],
+) -> Result<Vec<TreatedInRows, A>, AllocError>
+    ensures { IfOk result (λ all. all.items ≡ in_rows form messages.now treated.now) }
+{
+    match form {
+        Form::Lines { rows: false } => each_without_rows(alloc, messages, treated),
+        Form::Lines { rows: true } | Form::Table => all_in_rows(alloc, messages, treated),
+    }
+}
+
+/// What is done with each message, where rows are not to be said.
+fn each_without_rows<A: Allocator>(
     alloc: A,
     messages: &[Message],
     treated: &[Treated],
 ) -> Result<Vec<TreatedInRows, A>, AllocError>
-    ensures { IfOk result (λ all. all.items ≡ in_rows messages.now treated.now) }
+    ensures { IfOk result (λ all. all.items ≡ map without_rows (zip messages.now treated.now)) }
+{
+    let count = messages.len().min(treated.len());
+    let mut all = Vec::with_capacity(alloc, count)?;
+    for at in 0..count {
+        let one = treated[at];
+        all.push_reserved(TreatedInRows {
+            treated: one,
+            rows: 0,
+        });
+    }
+    Ok(all)
+}
+
+/// What is done with each message, and how many rows all leave of its hart up to its number.
+fn all_in_rows<A: Allocator + Copy>(
+    alloc: A,
+    messages: &[Message],
+    treated: &[Treated],
+) -> Result<Vec<TreatedInRows, A>, AllocError>
+    ensures { IfOk result (λ all. all.items ≡ map (in_row (zip messages.now treated.now)) (zip messages.now treated.now)) }
 {
     let mut counted = all_counted(alloc, messages, treated)?;
     sort(counted.as_mut_slice());
@@ -171,7 +208,8 @@ fn each_in_row<A: Allocator>(
 ) -> Result<Vec<TreatedInRows, A>, AllocError>
     ensures { (all : List Counted) → IsPermutation (all_counted messages.now treated.now) all
         → IsNonDecreasingBy key_in all → sums.now ≡ summed 0 all → All HasNumber (zip messages.now treated.now)
-        → IfOk result (λ rows. rows.items ≡ in_rows messages.now treated.now) }
+        → IfOk result (λ rows. rows.items
+        ≡ map (in_row (zip messages.now treated.now)) (zip messages.now treated.now)) }
 {
     let mut all = Vec::new(alloc);
     for at in 0..messages.len().min(treated.len()) {

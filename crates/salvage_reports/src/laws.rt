@@ -4,6 +4,7 @@ ghost use Rattle.salvage_reports.specs.EffectFields.{TakenHaveTheirEffect as Tak
 ghost use Rattle.salvage_reports.specs.Effects.{TakenHaveTheirEffect};
 ghost use Rattle.salvage_reports.specs.ListedAlike.{AcceptedAreTaken, CapturesAreListedAlike, LogsAreTaken};
 ghost use Rattle.salvage_reports.specs.SalvagedReadBack.{AreReadBack};
+ghost use Rattle.salvage_reports.specs.TotalsAddUp.{TotalsAddUp};
 ghost use Rattle.salvage_reports.specs.TreatedReadBack.{AreRowsReadBack};
 ghost use Rattle.salvage_reports.specs.TreatedText.{AllHartsAreTreated};
 
@@ -13,6 +14,13 @@ use frames::all_harts_choose_every_span;
 /// after it.
 pub fn salvaged_rows_are_read_back()
     ensures { AreReadBack }
+{}
+
+/// Each message is counted once among the counts of all harts that a report is on: as decoded, passed over, far, bad, alone,
+/// of a doubtful number, a copy or a stranger. So these counts come to how many messages there are, if there are fewer than
+/// 2^64.
+pub fn totals_add_up()
+    ensures { TotalsAddUp }
 {}
 
 /// The table of what is done with each message is read back: at each of its rows `csv` reads just the fields of the row,

@@ -11,8 +11,7 @@
 //! [`in_rows`] finds which rows of its hart each message settles that salvaging takes. [`write_treated`] writes a line or
 //! a row for each frame of some harts of a [`TreatedCapture`] and for each run of bytes between: where it is, what the
 //! message says, and the word for what is done with it. The columns are those of
-//! [`Columns`](listing::Columns). [`treated_rows_are_read_back`] says that `csv` reads back
-//! each row, and [`taken_messages_have_their_fields`] that a message has the fields of its effect as in a listing.
+//! a listing, with one for whether the message is far. [`treated_rows_are_read_back`] says that `csv` reads back each row, and [`taken_messages_have_their_fields`] that a message has the fields of its effect as in a listing.
 #![tactic(auto)]
 
 mod damage;
@@ -29,6 +28,7 @@ mod offsets;
 mod progress;
 mod salvaged_items;
 mod salvaged_writing;
+mod shown_parts;
 mod stretch_ends;
 mod totals;
 mod treated_messages;
@@ -44,7 +44,7 @@ pub use hart_rows::{TreatedInRows, in_rows};
 pub use laws::{
     accepted_messages_are_taken, all_harts_are_treated, messages_of_logs_are_taken,
     salvaged_rows_are_read_back, taken_messages_have_their_effect,
-    taken_messages_have_their_fields, treated_rows_are_read_back,
+    taken_messages_have_their_fields, totals_add_up, treated_rows_are_read_back,
     undamaged_captures_are_listed_alike,
 };
 pub use messages_line::write_messages;

@@ -101,6 +101,12 @@ pub(crate) enum Item {
         number: u64,
         offset: u64,
     },
+    /// A far number, and where its message is.
+    Far {
+        hart: usize,
+        number: u64,
+        offset: u64,
+    },
     /// A run of bytes that belong to no frame: where the first is, and how many there are.
     Run {
         offset: u64,
@@ -253,6 +259,10 @@ impl fmt::Display for ItemLine {
                 let at = Offset(offset);
                 write!(f, "alone: number {number} at {at}\n")
             }
+            Item::Far { number, offset, .. } => {
+                let at = Offset(offset);
+                write!(f, "far: number {number} at {at}\n")
+            }
             Item::Run { offset, count } => {
                 let at = Offset(offset);
                 write!(f, "bytes: {count} at {at}\n")
@@ -360,6 +370,14 @@ impl fmt::Display for ItemRow {
             } => {
                 let at = Offset(offset);
                 write!(f, "alone,{hart},{number},,,{at},,,,\n")
+            }
+            Item::Far {
+                hart,
+                number,
+                offset,
+            } => {
+                let at = Offset(offset);
+                write!(f, "far,{hart},{number},,,{at},,,,\n")
             }
             Item::Run { offset, count } => {
                 let at = Offset(offset);

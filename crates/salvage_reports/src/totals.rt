@@ -1,6 +1,7 @@
 //! What is counted of all harts that a report is on.
 
 ghost use Rattle.std.specs.Prelude.{◌≡◌, ◌+◌, sum_by};
+ghost use Rattle.salvaging.specs.FarGaps.{far_passed, far_taken, is_far_passed, is_far_taken};
 ghost use Rattle.salvaging.specs.PartsIn.{part_of, parts_in};
 ghost use Rattle.frames.specs.Start.{spans_of};
 ghost use Rattle.salvage_reports.specs.HartItems.{items_of};
@@ -9,7 +10,7 @@ ghost use Rattle.salvage_reports.specs.Totals.{capped, hart_count, loose_bytes, 
 use crate::found::Found;
 use crate::salvaged_items::Total;
 use frames::{Span, Spans, spans_of};
-use salvaging::{Part, SalvagedHart};
+use salvaging::{FarNumber, FarTreatment, Part, SalvagedHart};
 
 /// The sum of two counts, at most the greatest number.
 fn sum_of(sum: u64, more: usize) -> u64
@@ -55,18 +56,50 @@ fn with_parts(what: Total, sum: u64, parts: &[Part]) -> u64
     all
 }
 
+/// Whether the message of a far number is decoded.
+fn is_far_taken(treatment: FarTreatment) -> bool
+    ensures { result ≡ is_far_taken treatment }
+{
+    matches!(treatment, FarTreatment::Taken)
+}
+
+/// Whether it is passed over.
+fn is_far_passed(treatment: FarTreatment) -> bool
+    ensures { result ≡ is_far_passed treatment }
+{
+    matches!(treatment, FarTreatment::Passed)
+}
+
+/// How many far numbers have a message that is decoded.
+fn far_taken(far: &[FarNumber]) -> usize
+    ensures { result ≡ far_taken far.now }
+{
+    far.iter().filter(|one| is_far_taken(one.treatment)).count()
+}
+
+/// How many have one that is passed over.
+fn far_passed(far: &[FarNumber]) -> usize
+    ensures { result ≡ far_passed far.now }
+{
+    far.iter()
+        .filter(|one| is_far_passed(one.treatment))
+        .count()
+}
+
 /// A sum with what is counted of a hart.
 fn with_hart(what: Total, sum: u64, own: &SalvagedHart) -> u64
     ensures { result ≡ capped (sum + hart_count what own.now) }
 {
+    let far = own.far.as_slice();
     match what {
         Total::Rows | Total::Bad | Total::Alone => with_parts(what, sum, own.parts.as_slice()),
-        Total::Decoded => sum_of(sum, own.decoded),
-        Total::Passed => sum_of(sum, own.passed),
+        Total::Decoded => sum_of(sum, own.decoded.saturating_sub(far_taken(far))),
+        Total::Passed => sum_of(sum, own.passed.saturating_sub(far_passed(far))),
+        Total::Far => sum_of(sum_of(sum, far_taken(far)), far_passed(far)),
         Total::Doubtful => sum_of(sum, own.doubtful),
         Total::Copies => sum_of(sum, own.copies),
         Total::Late => sum_of(sum, own.late),
-        Total::Far | Total::Strangers | Total::Bytes => sum_of(sum, 0),
+        Total::Strangers | Total::Bytes => sum_of(sum, 0),
     }
 }
 

@@ -3,14 +3,15 @@
 ghost use Rattle.std.specs.Prelude.{◌≡◌, IfErr, OnOk, Some, option_map};
 ghost use Rattle.std.specs.Io.KnownBytes.{Appends};
 ghost use Rattle.output.specs.Begun.{AppendsBeginning};
+ghost use Rattle.output.specs.Fields.{fields_line};
 ghost use Rattle.listing.specs.SettledRows.{shows_rows};
-ghost use Rattle.salvage_reports.specs.Lines.{run_line, treated_line};
-ghost use Rattle.salvage_reports.specs.TreatedRows.{run_row, treated_row};
+ghost use Rattle.salvage_reports.specs.Lines.{treated_line};
+ghost use Rattle.salvage_reports.specs.TreatedRows.{columns, run_row, treated_row};
 ghost use Rattle.salvage_reports.specs.TreatedText.{message_text, run_text};
 
 use crate::fields::{DoneCells, first_place, last_place};
 use crate::hart_rows::TreatedInRows;
-use crate::words::{late_text, write_word};
+use crate::words::{far_text, late_text, write_word};
 use captures::Offset;
 use listing::{Form, MessageCells, MessageText, write_names};
 use message::Message;
@@ -82,8 +83,9 @@ fn write_line<S: Allocator, W: Write>(
     };
     write_text(sink, format_args!("{text} => "))?;
     write_word(form, symbols, &unpacked, one.treated, sink)?;
+    let far = far_text(one.treated.treated.far);
     let late = late_text(one.treated.treated.late);
-    write_text(sink, format_args!("{late}\n"))?;
+    write_text(sink, format_args!("{far}{late}\n"))?;
     Ok(())
 }
 
@@ -121,6 +123,22 @@ fn write_row<S: Allocator, W: Write>(
     Ok(())
 }
 
+/// The line of the names of the columns.
+#[derive(Clone, Copy)]
+pub(crate) struct TreatedColumns;
+
+impl fmt::Display for TreatedColumns {
+    ghost output = { λ names. Some (fields_line columns) };
+
+    fn fmt<W: fmt::Write>(&self, f: &mut fmt::Formatter<W>) -> fmt::Result {
+        f.write_str(
+            "kind,place,offset,hart,number,packet,addr,diff,priv,branch,trap,cause,tval,handler,epc,map,report,mode,\
+            ended,bad,waits,closed,treatment,reason,far,late,bytes,added,first_row,last_row,first,last,first_symbol,\
+            first_distance,last_symbol,last_distance\n",
+        )
+    }
+}
+
 /// The row of bytes that belong to no frame.
 #[derive(Clone, Copy)]
 struct RunRow {
@@ -138,7 +156,7 @@ impl fmt::Display for RunRow {
         let count = self.count;
         write!(
             f,
-            "bytes,,{offset},,,,,,,,,,,,,,,,,,,,,,,{count},,,,,,,,,\n"
+            "bytes,,{offset},,,,,,,,,,,,,,,,,,,,,,,,{count},,,,,,,,,\n"
         )
     }
 }

@@ -9,9 +9,9 @@ ghost use Rattle.salvage_reports.specs.TreatedText.{after_span, front_text, plac
 ghost use Rattle.salvage_reports.specs.TreatedText.{treated_text_of};
 
 use crate::hart_rows::TreatedInRows;
-use crate::treated_messages::{TreatedMessage, write_message, write_run};
+use crate::treated_messages::{TreatedColumns, TreatedMessage, write_message, write_run};
 use frames::{Span, Spans, mode_of, spans_of, write_start};
-use listing::{Columns, Form};
+use listing::Form;
 use message::{HartRange, Header};
 use output::write_text;
 use payload::Mode;
@@ -51,14 +51,13 @@ struct Treatments<'a> {
 /// line of a frame is the offset of its message's first byte, in 8 hexadecimal digits at least; the hart, the number and
 /// the packet, as [`list_capture`](listing::list_capture) writes them; ` => `; and a word for what is done with the
 /// message: `stranger`, `copy`, `doubtful`, `bad: ` and why, `alone`, `passed`, or the effect of a message that is taken, as
-/// `list_capture` writes it, with its rows, where the form says so. After the word of a message that is late comes
-/// `, late`. The line of a run of bytes is its
-/// offset and `bytes: N`.
+/// `list_capture` writes it, with its rows, where the form says so. After the word of a message that is far comes
+/// `, far`, and after that of one that is late `, late`. The line of a run of bytes is its offset and `bytes: N`.
 ///
 /// Before the rows come the names of the columns, which are those of
-/// [`write_listing_table`](listing::write_listing_table); `docs/FORMATS.md` has them. The row of a frame has its message's
-/// packet, a word for what is done with the message, and why it is bad, where it is; whether it is late; and what a message
-/// adds that is taken, as in the table of a listing. The row of a run of bytes has its offset and how many bytes there are.
+/// [`write_listing_table`](listing::write_listing_table), with `far` before `late`; `docs/FORMATS.md` has them. The row of a
+/// frame has its message's packet, a word for what is done with the message, and why it is bad, where it is; whether it is
+/// far, and whether it is late; and what a message adds that is taken, as in the table of a listing. The row of a run of bytes has its offset and how many bytes there are.
 ///
 /// Places are named by the symbols, where symbols are handed in. The only fault is [`WriteFault::Write`], where the writer
 /// failed: what was written then is a prefix of the text. The writer is not flushed. No memory is taken.
@@ -102,7 +101,7 @@ fn write_front<W: Write>(form: Form, header: Option<Header>, sink: &mut W) -> Re
 {
     match form {
         Form::Lines { .. } => write_start(header, sink)?,
-        Form::Table => write_text(sink, Columns)?,
+        Form::Table => write_text(sink, TreatedColumns)?,
     }
     Ok(())
 }

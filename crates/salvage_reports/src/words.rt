@@ -4,7 +4,7 @@ ghost use Rattle.std.specs.Prelude.{◌≡◌, IfErr, OnOk, option_map};
 ghost use Rattle.std.specs.Io.KnownBytes.{Appends};
 ghost use Rattle.output.specs.Begun.{AppendsBeginning};
 ghost use Rattle.listing.specs.SettledRows.{shows_rows};
-ghost use Rattle.salvage_reports.specs.Words.{late_text, taken_text, word_text};
+ghost use Rattle.salvage_reports.specs.Words.{far_text, late_text, taken_text, word_text};
 
 use crate::hart_rows::TreatedInRows;
 use listing::{Form, PacketEnding, SettledRows, ShownRows, write_places};
@@ -15,6 +15,13 @@ use salvaging::{Added, Treatment};
 use std::alloc::Allocator;
 use std::io::Write;
 use symbols::Symbols;
+
+/// What follows the word of a message that is far.
+pub(crate) fn far_text(far: bool) -> &'static str
+    ensures { result.now ≡ far_text far }
+{
+    if far { ", far" } else { "" }
+}
 
 /// What follows the word of a message that is late.
 pub(crate) fn late_text(late: bool) -> &'static str

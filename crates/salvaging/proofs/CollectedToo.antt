@@ -32,6 +32,7 @@ use Rattle.losses.proofs.InTurn.{AreTakenFrom, taken_rise}
 use Rattle.losses.proofs.RunsOfLog.{number_of}
 use Rattle.salvaging.specs.Copies.{AreCopies, HasLike}
 use Rattle.salvaging.specs.Entries.{Entry, Used, Doubtful, closed_behind, is_closed}
+use Rattle.salvaging.specs.Far.{believed}
 use Rattle.salvaging.specs.Late.{counted, is_late, late}
 use Rattle.salvaging.specs.LossyParts.{AreCollectedToo, IsCollected}
 use Rattle.salvaging.specs.Salvaged.{IsSalvaged, IsSalvagedHart}
@@ -40,6 +41,8 @@ use Rattle.salvaging.specs.declared.salvaged.SalvagedHart.{SalvagedHart}
 use Rattle.salvaging.specs.declared.salvaged.Salvaged.{Salvaged}
 use Rattle.salvaging.proofs.AllLogs.{all_pass}
 use Rattle.salvaging.proofs.EntriesCollected.{HaveMessages, hart_left}
+use Rattle.salvaging.proofs.FarLaws.{and_false, in_order_among}
+use Rattle.salvaging.proofs.FarNone.{come_in_order, plain_hart}
 use Rattle.salvaging.proofs.Members.{contains_of_in, in_of_contains}
 use Rattle.salvaging.proofs.NoRepeats.{no_more, rising_no_repeat}
 use Rattle.salvaging.proofs.OneHart.{message_with, number_in}
@@ -80,9 +83,9 @@ none_late base (Doubtful number one other ∷ entries) (message ∷ messages) (g
 none_late base (Used number at payload ∷ entries) [] (good ∷ goods) are = absurd are
 none_late base (Used number at payload ∷ entries) (message ∷ messages) (good ∷ goods)
     (number_is, payload_is, at_is, are) =
-    ap (λ b. counted b (late entries goods))
+    ap (λ b. counted (good && b) (late entries goods))
     (none_late_before at (base + 1) entries messages goods are (omega (arith, at_is)))
-    ∙ none_late (base + 1) entries messages goods are
+    ∙ ap (λ b. counted b (late entries goods)) (and_false good) ∙ none_late (base + 1) entries messages goods are
 
 -- Whether a trace is closed after further packets: by the last of them, or as it was where there is none.
 abbrev closed_by : Bool → List Packet → Bool
@@ -154,12 +157,18 @@ module _ (words : Words) (program : IsProgram words) (mode : Mode) where
       let have = have_messages 0 entries messages are in
       let left = hart_left words program mode messages messages one salvaged have taken
       (collected_parts pieces.parts.items) described in
+      let reported = plain_hart words mode messages one salvaged
+      (in_order_among messages entries salvaged.are_entries (come_in_order messages rising) salvaged.flags
+      salvaged.are_far)
+      in
       record {
         parts = left.1;
         closed = salvaged.closed ∙ ap is_closed left.0 ∙ closed_same false newcomer entries messages have taken
             ∙ sym (closes_by None (packets_in messages)) ∙ sym closed;
         copies = none_copied messages one.copies rising salvaged.copies;
-        late = salvaged.late ∙ none_late 0 entries messages salvaged.goods are;
+        late = salvaged.late ∙ none_late 0 entries messages (believed salvaged.goods salvaged.flags) are;
+        gaps = reported.0;
+        far = reported.1;
       }
 
   pub all_collected : {A B : Type 0} (harts : ℕ) (messages : List Message) (pieces : List (HartPieces A))

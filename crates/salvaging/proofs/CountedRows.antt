@@ -1,6 +1,6 @@
 -- How many of a hart's messages are treated in a way, by the rows of its numbers.
 use Rattle.std.proofs.Common.{◌≡◌, ◌⊎◌, inl, inr, ℕ, zero, suc, ◌+◌, ◌<◌, ◌≤◌, Bool, true, false, cond, List}
-use Rattle.std.proofs.Common.{[], ◌∷◌, Some, length, map, slice_get, take, refl, sym, ap, subst, ◌∙◌, arith}
+use Rattle.std.proofs.Common.{[], ◌∷◌, Some, length, slice_get, take, refl, sym, ap, subst, ◌∙◌, arith}
 use Rattle.std.specs.Prelude.{count_by}
 use Rattle.std.proofs.lemmas.Bool.{cases_lt}
 use Rattle.std.proofs.lemmas.List.Elements.{All-contains}
@@ -11,7 +11,7 @@ use Rattle.message.specs.declared.message.Message.{Message}
 use Rattle.losses.specs.Apart.{AreRising}
 use Rattle.losses.specs.WholeStretches.{NumberCame}
 use Rattle.salvaging.specs.Entries.{Entry, Used, Doubtful, AreEntries, IsEntryOf, IsUsed, entry_number}
-use Rattle.salvaging.specs.Treatments.{IsTreated, Row, copy, is_good_treatment, is_late_entry, row_of, rows}
+use Rattle.salvaging.specs.Treatments.{IsTreated, Row, copy, own_row, rows}
 use Rattle.salvaging.specs.declared.treatment.Treated.{Treated}
 use Rattle.salvaging.specs.declared.treatment.Treatment.{Treatment}
 use Rattle.salvaging.proofs.MarkedPlaces.{before_it, rows_least}
@@ -38,29 +38,33 @@ pub record AreTreatedBy (messages : List Message) (all : List Row) (treated : Li
       → slice_get treated k ≡ Some one → IsTreated messages all k message one
 
 -- Rows have different numbers.
-pub one_row : (from : ℕ) (entries : List Entry) (treatments : List Treatment) → Rise from entries → (row other : Row)
-    → IsIn row (rows entries treatments) → IsIn other (rows entries treatments) → row.number ≡ other.number
+pub one_row : (far : Entry → Bool) (from : ℕ) (entries : List Entry) (treatments : List Treatment) → Rise from entries
+    → (row other : Row)
+    → IsIn row (rows far entries treatments) → IsIn other (rows far entries treatments) → row.number ≡ other.number
     → row ≡ other
-one_row from [] treatments rises row other one two same = absurd one
-one_row from (entry ∷ entries) [] rises row other one two same = absurd one
-one_row from (entry ∷ entries) (first ∷ treatments) rises row other (inl is) (inl too) same = is ∙ sym too
-one_row from (entry ∷ entries) (first ∷ treatments) rises row other (inl is) (inr two) same =
-    let above = rows_least (entry_number entry + 1) entries treatments rises.1 other two in
+one_row far from [] treatments rises row other one two same = absurd one
+one_row far from (entry ∷ entries) [] rises row other one two same = absurd one
+one_row far from (entry ∷ entries) (first ∷ treatments) rises row other (inl is) (inl too) same = is ∙ sym too
+one_row far from (entry ∷ entries) (first ∷ treatments) rises row other (inl is) (inr two) same =
+    let above = rows_least far (entry_number entry + 1) entries treatments rises.1 other two in
     let own = ap (λ (r : Row). r.number) is in
     absurd (omega (arith, above, own, same))
-one_row from (entry ∷ entries) (first ∷ treatments) rises row other (inr one) (inl too) same =
-    let above = rows_least (entry_number entry + 1) entries treatments rises.1 row one in
+one_row far from (entry ∷ entries) (first ∷ treatments) rises row other (inr one) (inl too) same =
+    let above = rows_least far (entry_number entry + 1) entries treatments rises.1 row one in
     let own = ap (λ (r : Row). r.number) too in
     absurd (omega (arith, above, own, same))
-one_row from (entry ∷ entries) (first ∷ treatments) rises row other (inr one) (inr two) same =
-    one_row (entry_number entry + 1) entries treatments rises.1 row other one two same
+one_row far from (entry ∷ entries) (first ∷ treatments) rises row other (inr one) (inr two) same =
+    one_row far (entry_number entry + 1) entries treatments rises.1 row other one two same
 
--- The row of an entry before these.
-abbrev pub own_row : Entry → List Entry → Treatment → List Treatment → Row
-own_row entry entries one treatments =
-    row_of (entry_number entry) one (is_late_entry entry entries (map is_good_treatment treatments))
+-- No doubtful number passes a test.
+abbrev pub NoneDoubtful : (Treated → Bool) → List Entry → List Treatment → Type 0
+NoneDoubtful p [] treatments = Unit {0}
+NoneDoubtful p (entry ∷ entries) [] = Unit {0}
+NoneDoubtful p (Used number place payload ∷ entries) (one ∷ treatments) = NoneDoubtful p entries treatments
+NoneDoubtful p (Doubtful number first second ∷ entries) (one ∷ treatments) =
+    (p (record { treatment = one; far = false; late = false }) ≡ false) × NoneDoubtful p entries treatments
 
-module _ (p : Treated → Bool) where
+module _ (p : Treated → Bool) (far : Entry → Bool) where
   -- The places of those that pass a test, the first of which is at this place.
   abbrev pub places_of : ℕ → List Treated → List ℕ
   places_of at [] = []
@@ -128,14 +132,6 @@ module _ (p : Treated → Bool) where
       by_test true later = inr later
       by_test false later = later
 
-  -- No doubtful number passes it.
-  abbrev pub NoneDoubtful : List Entry → List Treatment → Type 0
-  NoneDoubtful [] treatments = Unit {0}
-  NoneDoubtful (entry ∷ entries) [] = Unit {0}
-  NoneDoubtful (Used number place payload ∷ entries) (one ∷ treatments) = NoneDoubtful entries treatments
-  NoneDoubtful (Doubtful number first second ∷ entries) (one ∷ treatments) =
-      (p (record { treatment = one; late = false }) ≡ false) × NoneDoubtful entries treatments
-
   -- The place of an entry's first message.
   abbrev place_of : Entry → ℕ
   place_of (Used number place payload) = place
@@ -146,22 +142,23 @@ module _ (p : Treated → Bool) where
   used_places [] treatments = []
   used_places (entry ∷ entries) [] = []
   used_places (entry ∷ entries) (one ∷ treatments) =
-      cond (p (own_row entry entries one treatments).treated)
+      cond (p (own_row far entry entries one treatments).treated)
       (place_of entry ∷ used_places entries treatments) (used_places entries treatments)
 
   rows_counted : (entries : List Entry) (treatments : List Treatment)
-      → length (used_places entries treatments) ≡ count_by (λ (row : Row). p row.treated) (rows entries treatments)
+      → length (used_places entries treatments) ≡ count_by (λ (row : Row). p row.treated) (rows far entries treatments)
   rows_counted [] treatments = refl
   rows_counted (entry ∷ entries) [] = refl
   rows_counted (entry ∷ entries) (one ∷ treatments) =
-      by_test (p (own_row entry entries one treatments).treated) (rows_counted entries treatments)
-      ∙ sym (count_cons (λ (row : Row). p row.treated) (own_row entry entries one treatments) (rows entries treatments))
+      by_test (p (own_row far entry entries one treatments).treated) (rows_counted entries treatments)
+      ∙ sym (count_cons (λ (row : Row). p row.treated) (own_row far entry entries one treatments)
+      (rows far entries treatments))
     where
       by_test : (b : Bool) → length (used_places entries treatments)
-          ≡ count_by (λ (row : Row). p row.treated) (rows entries treatments)
+          ≡ count_by (λ (row : Row). p row.treated) (rows far entries treatments)
           → length (cond b (place_of entry ∷ used_places entries treatments) (used_places entries treatments))
-          ≡ cond b (suc (count_by (λ (row : Row). p row.treated) (rows entries treatments)))
-          (count_by (λ (row : Row). p row.treated) (rows entries treatments))
+          ≡ cond b (suc (count_by (λ (row : Row). p row.treated) (rows far entries treatments)))
+          (count_by (λ (row : Row). p row.treated) (rows far entries treatments))
       by_test true same = ap suc same
       by_test false same = same
 
@@ -169,7 +166,7 @@ module _ (p : Treated → Bool) where
   pub record HasUsed (entries : List Entry) (treatments : List Treatment) (row : Row) (place : ℕ) : Type 0 where
     pub payload : List ℕ
     pub among : IsIn (Used row.number place payload) entries
-    pub row_among : IsIn row (rows entries treatments)
+    pub row_among : IsIn row (rows far entries treatments)
     pub place_among : NumberCame place (used_places entries treatments)
     pub passes : p row.treated ≡ true
 
@@ -179,7 +176,7 @@ module _ (p : Treated → Bool) where
     payload = has.payload;
     among = inr has.among;
     row_among = inr has.row_among;
-    place_among = by_test (p (own_row entry entries one treatments).treated);
+    place_among = by_test (p (own_row far entry entries one treatments).treated);
     passes = has.passes;
   }
     where
@@ -189,9 +186,9 @@ module _ (p : Treated → Bool) where
       by_test false = has.place_among
 
   used_here : (entry : Entry) (entries : List Entry) (one : Treatment) (treatments : List Treatment)
-      → NoneDoubtful (entry ∷ entries) (one ∷ treatments)
-      → p (own_row entry entries one treatments).treated ≡ true
-      → HasUsed (entry ∷ entries) (one ∷ treatments) (own_row entry entries one treatments) (place_of entry)
+      → NoneDoubtful p (entry ∷ entries) (one ∷ treatments)
+      → p (own_row far entry entries one treatments).treated ≡ true
+      → HasUsed (entry ∷ entries) (one ∷ treatments) (own_row far entry entries one treatments) (place_of entry)
   used_here (Used number place payload) entries one treatments none passes = record {
     payload = payload;
     among = inl refl;
@@ -205,12 +202,13 @@ module _ (p : Treated → Bool) where
       let never : true ≡ false = sym passes ∙ none.0 in cc
 
   none_later : (entry : Entry) (entries : List Entry) (one : Treatment) (treatments : List Treatment)
-      → NoneDoubtful (entry ∷ entries) (one ∷ treatments) → NoneDoubtful entries treatments
+      → NoneDoubtful p (entry ∷ entries) (one ∷ treatments) → NoneDoubtful p entries treatments
   none_later (Used number place payload) entries one treatments none = none
   none_later (Doubtful number first second) entries one treatments none = none.1
 
-  by_row : (entries : List Entry) (treatments : List Treatment) → NoneDoubtful entries treatments → (row : Row)
-      → IsIn row (rows entries treatments) → p row.treated ≡ true → (place : ℕ) × HasUsed entries treatments row place
+  by_row : (entries : List Entry) (treatments : List Treatment) → NoneDoubtful p entries treatments → (row : Row)
+      → IsIn row (rows far entries treatments) → p row.treated ≡ true
+      → (place : ℕ) × HasUsed entries treatments row place
   by_row [] treatments none row there passes = absurd there
   by_row (entry ∷ entries) [] none row there passes = absurd there
   by_row (entry ∷ entries) (one ∷ treatments) none row (inl is) passes = (
@@ -222,32 +220,32 @@ module _ (p : Treated → Bool) where
       let found = by_row entries treatments (none_later entry entries one treatments none) row there passes in
       (found.0, used_later entry entries one treatments row found.0 found.1)
 
-  by_place : (entries : List Entry) (treatments : List Treatment) → NoneDoubtful entries treatments → (place : ℕ)
+  by_place : (entries : List Entry) (treatments : List Treatment) → NoneDoubtful p entries treatments → (place : ℕ)
       → NumberCame place (used_places entries treatments) → (row : Row) × HasUsed entries treatments row place
   by_place [] treatments none place came = absurd came
   by_place (entry ∷ entries) [] none place came = absurd came
   by_place (entry ∷ entries) (one ∷ treatments) none place came =
-      by_test (p (own_row entry entries one treatments).treated) refl
+      by_test (p (own_row far entry entries one treatments).treated) refl
       (by_place entries treatments (none_later entry entries one treatments none) place) came
     where
       behind : (row : Row) × HasUsed entries treatments row place
           → (row : Row) × HasUsed (entry ∷ entries) (one ∷ treatments) row place
       behind found = (found.0, used_later entry entries one treatments found.0 place found.1)
 
-      by_test : (b : Bool) → p (own_row entry entries one treatments).treated ≡ b
+      by_test : (b : Bool) → p (own_row far entry entries one treatments).treated ≡ b
           → (NumberCame place (used_places entries treatments) → (row : Row) × HasUsed entries treatments row place)
           → NumberCame place (cond b (place_of entry ∷ used_places entries treatments) (used_places entries treatments))
           → (row : Row) × HasUsed (entry ∷ entries) (one ∷ treatments) row place
       by_test true passes again (inl is) = (
-        own_row entry entries one treatments,
-        subst (λ n. HasUsed (entry ∷ entries) (one ∷ treatments) (own_row entry entries one treatments) n) (sym is)
+        own_row far entry entries one treatments,
+        subst (λ n. HasUsed (entry ∷ entries) (one ∷ treatments) (own_row far entry entries one treatments) n) (sym is)
             (used_here entry entries one treatments none passes),
       )
       by_test true passes again (inr later) = behind (again later)
       by_test false fails again later = behind (again later)
 
   module _ (messages : List Message) (entries : List Entry) (treatments : List Treatment)
-      (are : AreEntries messages entries) (none : NoneDoubtful entries treatments) where
+      (are : AreEntries messages entries) (none : NoneDoubtful p entries treatments) where
     used_of : (number place : ℕ) (payload : List ℕ) → IsIn (Used number place payload) entries
         → IsUsed messages number place payload
     used_of number place payload there =
@@ -255,16 +253,16 @@ module _ (p : Treated → Bool) where
         (contains_of_in entries (Used number place payload) there)
 
     -- Different entries have different places.
-    no_repeat : (from : ℕ) (some : List Entry) (done : List Treatment) → Rise from some → NoneDoubtful some done
+    no_repeat : (from : ℕ) (some : List Entry) (done : List Treatment) → Rise from some → NoneDoubtful p some done
         → ((entry : Entry) → IsIn entry some → IsIn entry entries) → NoRepeat (used_places some done)
     no_repeat from [] done rises fails among = tt
     no_repeat from (entry ∷ some) [] rises fails among = tt
     no_repeat from (entry ∷ some) (one ∷ done) rises fails among =
-        by_test (p (own_row entry some one done).treated) refl
+        by_test (p (own_row far entry some one done).treated) refl
         (no_repeat (entry_number entry + 1) some done rises.1 (none_later entry some one done fails)
         (λ other there. among other (inr there)))
       where
-        apart : p (own_row entry some one done).treated ≡ true
+        apart : p (own_row far entry some one done).treated ≡ true
             → ¬ NumberCame (place_of entry) (used_places some done)
         apart passes came =
             let own = used_here entry some one done fails passes in
@@ -279,12 +277,12 @@ module _ (p : Treated → Bool) where
             (Used found.0.number (place_of entry) found.1.payload) found.1.among in
             omega (arith, number, above)
 
-        by_test : (b : Bool) → p (own_row entry some one done).treated ≡ b → NoRepeat (used_places some done)
+        by_test : (b : Bool) → p (own_row far entry some one done).treated ≡ b → NoRepeat (used_places some done)
             → NoRepeat (cond b (place_of entry ∷ used_places some done) (used_places some done))
         by_test true passes rest = (apart passes, rest)
         by_test false fails_it rest = rest
 
-    module _ (treated : List Treated) (by : AreTreatedBy messages (rows entries treatments) treated)
+    module _ (treated : List Treated) (by : AreTreatedBy messages (rows far entries treatments) treated)
         (fails : p copy ≡ false) where
       -- One that passes the test is the first message of its entry.
       passing_used : AreAmong (places_of 0 treated) (used_places entries treatments)
@@ -300,14 +298,14 @@ module _ (p : Treated → Bool) where
           (by_treated k at.0 one at.1 found.4 (by.each k at.0 one at.1 found.3))
         where
           by_treated : (k : ℕ) (message : Message) (one : Treated) → slice_get messages k ≡ Some message
-              → p one ≡ true → IsTreated messages (rows entries treatments) k message one
+              → p one ≡ true → IsTreated messages (rows far entries treatments) k message one
               → NumberCame k (used_places entries treatments)
           by_treated k message one here passes (inl copied) =
               let never : true ≡ false = sym passes ∙ ap p copied.1 ∙ fails in cc
           by_treated k message one here passes (inr (first, contains)) =
               let row : Row = record { number = message.number; treated = one } in
               let found = by_row entries treatments none row
-              (in_of_contains (rows entries treatments) row contains) passes in
+              (in_of_contains (rows far entries treatments) row contains) passes in
               let used = used_of message.number found.0 found.1.payload found.1.among in
               let payload = All-contains (λ (m : Message). m.number ≡ message.number → m.payload ≡ found.1.payload)
               messages message used.alone (contains_of_in messages message (in_at messages k message here)) refl in
@@ -342,19 +340,19 @@ module _ (p : Treated → Bool) where
         where
           by_treated : (row : Row) (has : HasUsed entries treatments row place)
               (used : IsUsed messages row.number place has.payload) (one : Treated)
-              → IsTreated messages (rows entries treatments) place used.message one → p one ≡ true
+              → IsTreated messages (rows far entries treatments) place used.message one → p one ≡ true
           by_treated row has used one (inl ((like, contains, alike), is)) =
               let before = before_it place messages like
               (in_of_contains (take place messages) like contains) in
               absurd (used.first before.0 like before.1 before.2 (sym alike.0 ∙ used.number_here))
           by_treated row has used one (inr (first, contains)) =
               let own : Row = record { number = used.message.number; treated = one } in
-              let same = one_row 0 entries treatments are.rising own row
-              (in_of_contains (rows entries treatments) own contains) has.row_among used.number_here in
+              let same = one_row far 0 entries treatments are.rising own row
+              (in_of_contains (rows far entries treatments) own contains) has.row_among used.number_here in
               ap (λ (r : Row). p r.treated) same ∙ has.passes
 
       -- So as many messages pass the test as rows do.
-      pub as_many : count_by p treated ≡ count_by (λ (row : Row). p row.treated) (rows entries treatments)
+      pub as_many : count_by p treated ≡ count_by (λ (row : Row). p row.treated) (rows far entries treatments)
       as_many =
           let few = no_more (places_of 0 treated) (used_places entries treatments)
           (rising_no_repeat 0 (places_of 0 treated) (places_rise 0 0 treated (omega arith))) passing_used in

@@ -9,6 +9,7 @@ use Rattle.payload.specs.declared.mode.Mode.{Mode}
 use Rattle.message.specs.declared.message.Message.{Message}
 use Rattle.salvaging.specs.Ends.{AreCutAtEnd, HartLeaves}
 use Rattle.salvaging.specs.Entries.{Entry, Used, Doubtful}
+use Rattle.salvaging.specs.Far.{AreFar, believed}
 use Rattle.salvaging.specs.Late.{counted, is_late, late}
 use Rattle.salvaging.specs.Leaving.{own_mode}
 use Rattle.salvaging.specs.PartsIn.{parts_in}
@@ -20,16 +21,17 @@ use Rattle.salvaging.specs.TreatedCounts.{AreCountedAlike, AreCountedToo, is_alo
 use Rattle.salvaging.specs.TreatedCounts.{count_treated, makes_alone, makes_bad, makes_copy, makes_passed, makes_stranger}
 use Rattle.salvaging.specs.TreatedCounts.{makes_taken, own_of}
 use Rattle.salvaging.specs.Treatments.{AreTreated, HartTreats, IsTreated, Row, hart_rows, is_good_treatment, own_place}
-use Rattle.salvaging.specs.Treatments.{rows, stranger, treatment_of}
+use Rattle.salvaging.specs.Treatments.{own_row, rows, stranger, treatment_of}
 use Rattle.salvaging.specs.declared.salvaged.SalvagedHart.{SalvagedHart}
 use Rattle.salvaging.specs.declared.salvaged.Salvaged.{Salvaged}
 use Rattle.salvaging.specs.declared.treatment.Treated.{Treated}
 use Rattle.salvaging.specs.declared.treatment.Treatment.{Treatment}
 use Rattle.salvaging.proofs.CountedOnce.{hart_once}
-use Rattle.salvaging.proofs.CountedRows.{AreTreatedBy, NoneDoubtful, as_many, count_cons, own_row}
+use Rattle.salvaging.proofs.CountedRows.{AreTreatedBy, NoneDoubtful, as_many, count_cons}
 use Rattle.salvaging.proofs.CountedTotals.{sum_from, sum_of, total}
 use Rattle.salvaging.proofs.CutOnce.{cut_once}
 use Rattle.salvaging.proofs.EntriesOnce.{entries_once}
+use Rattle.salvaging.proofs.FarLaws.{one_set}
 use Rattle.salvaging.proofs.GoodsTreated.{hart_good}
 use Rattle.salvaging.proofs.MarksCounted.{GoTogether, SuitAll, doubts_fail, hart_suits, rows_of_parts}
 use Rattle.salvaging.proofs.Members.{in_of_contains}
@@ -41,25 +43,30 @@ use Rattle.salvaging.proofs.TreatedCopies.{row_share, treated_copies}
 use Rattle.salvaging.proofs.TreatedTallies.{doubts_none, good_shares, hart_passes, one_kind, rows_shares}
 
 -- As many rows are late as are counted.
-late_rows : (entries : List Entry) (treatments : List Treatment)
-    → count_by (λ (row : Row). row.treated.late) (rows entries treatments)
-    ≡ late entries (map is_good_treatment treatments)
-late_rows [] treatments = refl
-late_rows (entry ∷ entries) [] = refl
-late_rows (Used number place payload ∷ entries) (one ∷ treatments) =
-    count_cons (λ (row : Row). row.treated.late) (own_row (Used number place payload) entries one treatments)
-    (rows entries treatments)
-    ∙ ap (λ n. cond (is_late place entries (map is_good_treatment treatments)) (suc n) n) (late_rows entries treatments)
-    ∙ by_test (is_late place entries (map is_good_treatment treatments))
+late_rows : (far : Entry → Bool) (entries : List Entry) (treatments : List Treatment)
+    → count_by (λ (row : Row). row.treated.late) (rows far entries treatments)
+    ≡ late entries (believed (map is_good_treatment treatments) (map far entries))
+late_rows far [] treatments = refl
+late_rows far (entry ∷ entries) [] = refl
+late_rows far (Used number place payload ∷ entries) (one ∷ treatments) =
+    count_cons (λ (row : Row). row.treated.late) (own_row far (Used number place payload) entries one treatments)
+    (rows far entries treatments)
+    ∙ ap (λ n. cond is_late_one (suc n) n) (late_rows far entries treatments) ∙ by_test is_late_one
   where
-    by_test : (b : Bool) → cond b (suc (late entries (map is_good_treatment treatments)))
-        (late entries (map is_good_treatment treatments)) ≡ counted b (late entries (map is_good_treatment treatments))
+    all_later : List Bool
+    all_later = believed (map is_good_treatment treatments) (map far entries)
+
+    is_late_one : Bool
+    is_late_one = (is_good_treatment one && not (far (Used number place payload))) && is_late place entries all_later
+
+    by_test : (b : Bool) → cond b (suc (late entries all_later)) (late entries all_later)
+        ≡ counted b (late entries all_later)
     by_test true = refl
     by_test false = refl
-late_rows (Doubtful number first second ∷ entries) (one ∷ treatments) =
-    count_cons (λ (row : Row). row.treated.late) (own_row (Doubtful number first second) entries one treatments)
-    (rows entries treatments)
-    ∙ late_rows entries treatments
+late_rows far (Doubtful number first second ∷ entries) (one ∷ treatments) =
+    count_cons (λ (row : Row). row.treated.late) (own_row far (Doubtful number first second) entries one treatments)
+    (rows far entries treatments)
+    ∙ late_rows far entries treatments
 
 none_doubtful_late : (entries : List Entry) (treatments : List Treatment)
     → NoneDoubtful (λ (one : Treated). one.late) entries treatments
@@ -113,19 +120,23 @@ share_no_stranger StandsAlone = refl
 share_no_stranger Doubts = refl
 
 -- No message of a hart is a stranger.
-none_strange : (messages : List Message) (entries : List Entry) (shares : List Share) (treated : List Treated)
-    → AreTreatedBy messages (rows entries (map treatment_of shares)) treated → count_treated makes_stranger treated ≡ 0
-none_strange messages entries shares treated by =
+none_strange : (far : Entry → Bool) (messages : List Message) (entries : List Entry) (shares : List Share)
+    (treated : List Treated)
+    → AreTreatedBy messages (rows far entries (map treatment_of shares)) treated
+    → count_treated makes_stranger treated ≡ 0
+none_strange far messages entries shares treated by =
     count_same (λ (one : Treated). makes_stranger one.treatment) (λ (message : Message). false) treated messages by.long
     (λ k one message done here. by_treated k message one (by.each k message one here done))
     ∙ no_count messages
   where
     by_treated : (k : ℕ) (message : Message) (one : Treated)
-        → IsTreated messages (rows entries (map treatment_of shares)) k message one → makes_stranger one.treatment ≡ false
+        → IsTreated messages (rows far entries (map treatment_of shares)) k message one
+        → makes_stranger one.treatment ≡ false
     by_treated k message one (inl (like, is)) = ap (λ (t : Treated). makes_stranger t.treatment) is
     by_treated k message one (inr (first, contains)) =
         let row : Row = record { number = message.number; treated = one } in
-        let share = row_share entries shares row (in_of_contains (rows entries (map treatment_of shares)) row contains) in
+        let share = row_share far entries shares row
+        (in_of_contains (rows far entries (map treatment_of shares)) row contains) in
         ap makes_stranger share.1 ∙ share_no_stranger share.0
 
     no_count : (messages : List Message) → count_by (λ (message : Message). false) messages ≡ 0
@@ -140,6 +151,7 @@ module _ (words : Words) (program : IsProgram words) (mode : Mode) where
   hart_counted messages treated hart salvaged treats by =
       let entries = treats.entries in
       let shares = treats.shares in
+      let far = treats.are_far.among in
       let own = own_mode mode entries in
       let same = entries_once messages salvaged.entries entries salvaged.are_entries treats.are_entries in
       let cut = subst (λ es. AreCutAtEnd words (own_mode mode es) es salvaged.upto salvaged.beyond) same salvaged.cut in
@@ -154,22 +166,27 @@ module _ (words : Words) (program : IsProgram words) (mode : Mode) where
       (hart_suits words program own treats.upto treats.beyond shares treats.are_shares) in
       let marks = (parts_treated words mode messages hart program salvaged treats).marks in
       let done = map treatment_of shares in
+      let flags : salvaged.flags ≡ map far entries =
+      one_set entries salvaged.flags treats.far (subst (λ es. AreFar es salvaged.flags) same salvaged.are_far)
+      treats.are_far
+      ∙ treats.are_far.are_among in
       let long_shares = hart_many words own treats.upto treats.beyond shares treats.are_shares
       ∙ sym (ap length treats.cut.whole) in
-      let copies = copies_once messages _ hart.copies (treated_copies messages entries shares treated by)
+      let copies = copies_once messages _ hart.copies (treated_copies far messages entries shares treated by)
       salvaged.copies in
-      let bad = as_many (λ (one : Treated). makes_bad one.treatment) messages entries done treats.are_entries
+      let bad = as_many (λ (one : Treated). makes_bad one.treatment) far messages entries done treats.are_entries
       (doubts_fail is_bad_number makes_bad bad_together entries shares suit) treated by refl
-      ∙ rows_of_parts is_bad_number makes_bad bad_together (parts_in hart.parts.items) entries shares marks suit in
-      let alone = as_many (λ (one : Treated). makes_alone one.treatment) messages entries done treats.are_entries
+      ∙ rows_of_parts is_bad_number makes_bad bad_together far (parts_in hart.parts.items) entries shares marks suit in
+      let alone = as_many (λ (one : Treated). makes_alone one.treatment) far messages entries done treats.are_entries
       (doubts_fail is_alone_number makes_alone alone_together entries shares suit) treated by refl
-      ∙ rows_of_parts is_alone_number makes_alone alone_together (parts_in hart.parts.items) entries shares marks suit in
-      let passes = as_many (λ (one : Treated). makes_passed one.treatment) messages entries done treats.are_entries
+      ∙ rows_of_parts is_alone_number makes_alone alone_together far (parts_in hart.parts.items) entries shares marks
+      suit in
+      let passes = as_many (λ (one : Treated). makes_passed one.treatment) far messages entries done treats.are_entries
       (doubts_none makes_passed refl entries shares suit) treated by refl
-      ∙ rows_shares makes_passed entries shares long_shares in
-      let takes = as_many (λ (one : Treated). makes_taken one.treatment) messages entries done treats.are_entries
+      ∙ rows_shares far makes_passed entries shares long_shares in
+      let takes = as_many (λ (one : Treated). makes_taken one.treatment) far messages entries done treats.are_entries
       (doubts_none makes_taken refl entries shares suit) treated by refl
-      ∙ rows_shares makes_taken entries shares long_shares in
+      ∙ rows_shares far makes_taken entries shares long_shares in
       let passed_is = passes
       ∙ hart_passes words own treats.upto treats.beyond shares treats.are_shares salvaged.goods goods
       ∙ ap (λ es. passed false 0 es salvaged.goods) (sym treats.cut.whole ∙ sym same)
@@ -181,14 +198,15 @@ module _ (words : Words) (program : IsProgram words) (mode : Mode) where
       omega (arith, takes, good, goods_count, tallied, passes, passed_is) in
       let counted = hart_once words mode messages hart salvaged in
       let kinds_are = one_kind treated in
-      let no_stranger = none_strange messages entries shares treated by in
+      let no_stranger = none_strange far messages entries shares treated by in
       let long = by.long in
       record {
         copies = copies;
-        late = as_many (λ (one : Treated). one.late) messages entries done treats.are_entries
+        late = as_many (λ (one : Treated). one.late) far messages entries done treats.are_entries
             (none_doubtful_late entries done) treated by refl
-            ∙ late_rows entries done ∙ sym (ap (late entries) goods) ∙ sym (ap (λ es. late es salvaged.goods) same)
-            ∙ sym salvaged.late;
+            ∙ late_rows far entries done ∙ sym (ap (λ gs. late entries (believed gs (map far entries))) goods)
+            ∙ sym (ap (λ fs. late entries (believed salvaged.goods fs)) flags)
+            ∙ sym (ap (λ es. late es (believed salvaged.goods salvaged.flags)) same) ∙ sym salvaged.late;
         decoded = decoded;
         passed = passed_is;
         doubtful = omega (arith, counted, kinds_are, no_stranger, long, decoded, passed_is, bad, alone, copies);
@@ -238,7 +256,8 @@ module _ (words : Words) (program : IsProgram words) (mode : Mode) (harts : ℕ)
       by_treated known (inr (first, contains)) =
           let treats = are.each_hart message.hart known in
           let row : Row = record { number = message.number; treated = one } in
-          let share = row_share treats.entries treats.shares row (in_of_contains (hart_rows treats) row contains) in
+          let share = row_share treats.are_far.among treats.entries treats.shares row
+          (in_of_contains (hart_rows treats) row contains) in
           ap makes_stranger share.1 ∙ share_no_stranger share.0
 
       by_test : (b : Bool) → is_stranger harts message ≡ b → makes_stranger one.treatment ≡ b

@@ -1,4 +1,4 @@
--- All that was distributed has numbers that a hart may have, and all of it is salvaged.
+-- All that was distributed has its places and numbers that a hart may have, and all of it is salvaged.
 use Rattle.std.proofs.Common.{◌≡◌, ◌<◌, ℕ, ◌+◌, All, Bool, true, false, List, [], ◌∷◌, length}
 use Rattle.std.proofs.Common.{slice_index_or}
 use Rattle.std.proofs.Common.{refl, sym, subst, ◌∙◌, arith}
@@ -19,7 +19,7 @@ use Rattle.salvaging.specs.Salvaged.{IsSalvaged}
 use Rattle.salvaging.specs.Strangers.{has_number, is_stranger, own_messages}
 use Rattle.salvaging.specs.declared.received.ReceivedMessage.{ReceivedMessage}
 use Rattle.salvaging.specs.declared.salvaged.Salvaged.{Salvaged}
-use Rattle.salvaging.specs.steps.Arrivals.{Arrival, HaveNumbers, arrivals_in, placed_from}
+use Rattle.salvaging.specs.steps.Arrivals.{Arrival, HaveNumbers, HavePlaces, arrivals_in, placed_from}
 use Rattle.salvaging.specs.steps.Distributing.{AreSalvagedOf, Distributes}
 
 abbrev IsSmall : Arrival → Type 0
@@ -42,12 +42,24 @@ have_numbers from (message ∷ messages) =
     by_test false has behind here = here
 
 module _ {A : Type 0} where
-  pub distributed_small : (messages : List Message) (lists : List (Vec ReceivedMessage A)) → Distributes messages lists
-      → All (λ (list : Vec ReceivedMessage A). HaveNumbers (arrivals_in list.items)) lists
-  distributed_small messages lists d k default within =
+  -- What holds of the messages of each hart with their places holds of each list.
+  distributed : (Holds : List Arrival → Type 0) (messages : List Message) (lists : List (Vec ReceivedMessage A))
+      → Distributes messages lists → ((hart : ℕ) → Holds (placed_from 0 (own_messages hart messages)))
+      → All (λ (list : Vec ReceivedMessage A). Holds (arrivals_in list.items)) lists
+  distributed Holds messages lists d each k default within =
       let list = slice_index_or lists k default in
       let at = slice_get_read lists (length lists) k list refl within (get_or_default lists k default list within) in
-      subst HaveNumbers (sym (d.each k list at)) (have_numbers 0 (of_hart k messages))
+      subst Holds (sym (d.each k list at)) (each k)
+
+  pub distributed_small : (messages : List Message) (lists : List (Vec ReceivedMessage A)) → Distributes messages lists
+      → All (λ (list : Vec ReceivedMessage A). HaveNumbers (arrivals_in list.items)) lists
+  distributed_small messages lists d =
+      distributed HaveNumbers messages lists d (λ hart. have_numbers 0 (of_hart hart messages))
+
+  pub distributed_placed : (messages : List Message) (lists : List (Vec ReceivedMessage A)) → Distributes messages lists
+      → All (λ (list : Vec ReceivedMessage A). HavePlaces (arrivals_in list.items)) lists
+  distributed_placed messages lists d =
+      distributed HavePlaces messages lists d (λ hart. (own_messages hart messages, refl))
 
   pub all_salvaged : (words : Words) (mode : Mode) (harts : ℕ) (messages : List Message) (lists : List
       (Vec ReceivedMessage A))

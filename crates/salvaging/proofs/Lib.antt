@@ -29,6 +29,7 @@ pub mod LateSteps
 pub mod TakenInTurn
 pub mod SameMessages
 pub mod EntriesCollected
+pub mod FarNone
 pub mod CollectedToo
 pub mod PushedParts
 pub mod RunsEnded
@@ -47,6 +48,7 @@ pub mod DistributedAll
 pub mod EntriesOnce
 pub mod CutOnce
 pub mod OneWay
+pub mod SalvagedOnce
 pub mod AddedOf
 pub mod RowSteps
 pub mod FirstLike
@@ -78,4 +80,7 @@ pub mod Neighbours
 pub mod BoundSteps
 pub mod FarLaws
 pub mod FlaggedNumbers
+pub mod GapSteps
 pub mod CountsFit
+pub mod FarCounts
+pub mod GapsFit

@@ -1,6 +1,6 @@
 -- The messages of bad, doubtful and alone numbers are treated as such.
 use Rattle.std.proofs.Common.{◌≡◌, ◌≢◌, ◌⊎◌, inl, inr, ℕ, zero, suc, ◌+◌, ◌<◌, ◌≤◌, All, List, []}
-use Rattle.std.proofs.Common.{◌∷◌, Some, map, refl, sym, ap, subst, ◌∙◌, arith, slice_get, take}
+use Rattle.std.proofs.Common.{◌∷◌, Bool, Some, map, refl, sym, ap, subst, ◌∙◌, arith, slice_get, take}
 use Rattle.std.proofs.lemmas.List.Elements.{All-append, All-cons, All-contains, All-head, All-nil, All-tail}
 use Rattle.std.proofs.lemmas.Option.{same_Some}
 use Rattle.message.specs.declared.message.Message.{Message}
@@ -34,37 +34,39 @@ pair_in entry share (first ∷ entries) (one ∷ shares) (inl same) = inl same.0
 pair_in entry share (first ∷ entries) (one ∷ shares) (inr pair) = inr (pair_in entry share entries shares pair)
 
 -- Rows have the numbers of their entries.
-pub rows_least : (from : ℕ) (entries : List Entry) (treatments : List Treatment) → Rise from entries → (row : Row)
-    → IsIn row (rows entries treatments) → from ≤ row.number
-rows_least from [] treatments rises row one = absurd one
-rows_least from (entry ∷ entries) [] rises row one = absurd one
-rows_least from (entry ∷ entries) (first ∷ treatments) rises row (inl is) =
+pub rows_least : (far : Entry → Bool) (from : ℕ) (entries : List Entry) (treatments : List Treatment)
+    → Rise from entries → (row : Row)
+    → IsIn row (rows far entries treatments) → from ≤ row.number
+rows_least far from [] treatments rises row one = absurd one
+rows_least far from (entry ∷ entries) [] rises row one = absurd one
+rows_least far from (entry ∷ entries) (first ∷ treatments) rises row (inl is) =
     let least = rises.0 in
     let same = ap (λ (r : Row). r.number) is in
     omega (arith, least, same)
-rows_least from (entry ∷ entries) (first ∷ treatments) rises row (inr one) =
+rows_least far from (entry ∷ entries) (first ∷ treatments) rises row (inr one) =
     let least = rises.0 in
-    let more = rows_least (entry_number entry + 1) entries treatments rises.1 row one in
+    let more = rows_least far (entry_number entry + 1) entries treatments rises.1 row one in
     omega (arith, least, more)
 
 -- The row of an entry says what the entry does.
-row_says : (from : ℕ) (entries : List Entry) (shares : List Share) → Rise from entries → (row : Row) (entry : Entry)
-    (share : Share) → IsIn row (rows entries (map treatment_of shares)) → IsPair entry share entries shares
+row_says : (far : Entry → Bool) (from : ℕ) (entries : List Entry) (shares : List Share) → Rise from entries
+    → (row : Row) (entry : Entry)
+    (share : Share) → IsIn row (rows far entries (map treatment_of shares)) → IsPair entry share entries shares
     → row.number ≡ entry_number entry → row.treated.treatment ≡ treatment_of share
-row_says from [] shares rises row entry share one pair numbered = absurd pair
-row_says from (first ∷ entries) [] rises row entry share one pair numbered = absurd pair
-row_says from (first ∷ entries) (done ∷ shares) rises row entry share (inl is) (inl same) numbered =
+row_says far from [] shares rises row entry share one pair numbered = absurd pair
+row_says far from (first ∷ entries) [] rises row entry share one pair numbered = absurd pair
+row_says far from (first ∷ entries) (done ∷ shares) rises row entry share (inl is) (inl same) numbered =
     ap (λ (r : Row). r.treated.treatment) is ∙ sym (ap treatment_of same.1)
-row_says from (first ∷ entries) (done ∷ shares) rises row entry share (inl is) (inr pair) numbered =
+row_says far from (first ∷ entries) (done ∷ shares) rises row entry share (inl is) (inr pair) numbered =
     let own = ap (λ (r : Row). r.number) is in
     let above = rise_least (entry_number first + 1) entries rises.1 entry (pair_in entry share entries shares pair) in
     absurd (omega (arith, own, numbered, above))
-row_says from (first ∷ entries) (done ∷ shares) rises row entry share (inr one) (inl same) numbered =
-    let above = rows_least (entry_number first + 1) entries (map treatment_of shares) rises.1 row one in
+row_says far from (first ∷ entries) (done ∷ shares) rises row entry share (inr one) (inl same) numbered =
+    let above = rows_least far (entry_number first + 1) entries (map treatment_of shares) rises.1 row one in
     let own = ap entry_number same.0 in
     absurd (omega (arith, own, numbered, above))
-row_says from (first ∷ entries) (done ∷ shares) rises row entry share (inr one) (inr pair) numbered =
-    row_says (entry_number first + 1) entries shares rises.1 row entry share one pair numbered
+row_says far from (first ∷ entries) (done ∷ shares) rises row entry share (inr one) (inr pair) numbered =
+    row_says far (entry_number first + 1) entries shares rises.1 row entry share one pair numbered
 
 -- A message among the first ones has a place before.
 pub before_it : (n : ℕ) (messages : List Message) (message : Message) → IsIn message (take n messages)
@@ -78,17 +80,19 @@ before_it (suc n) (first ∷ messages) message (inr one) =
     let below = found.1 in
     (suc found.0, omega (arith, below), found.2)
 
-module _ (messages : List Message) (entries : List Entry) (shares : List Share) (are : AreEntries messages entries)
+module _ (far : Entry → Bool) (messages : List Message) (entries : List Entry) (shares : List Share)
+    (are : AreEntries messages entries)
   where
     -- The message at a place that no other is like before it has what its entry does.
     so_treated : (entry : Entry) (share : Share) → IsPair entry share entries shares → (place : ℕ) (message : Message)
-        → (treated : Treated) → IsTreated messages (rows entries (map treatment_of shares)) place message treated
+        → (treated : Treated) → IsTreated messages (rows far entries (map treatment_of shares)) place message treated
         → message.number ≡ entry_number entry → ¬ HasLike (take place messages) message
         → treated.treatment ≡ treatment_of share
     so_treated entry share pair place message treated (inl copied) numbered first = absurd (first copied.0)
     so_treated entry share pair place message treated (inr own) numbered first =
-        row_says 0 entries shares are.rising (record { number = message.number; treated = treated }) entry share
-        (in_of_contains (rows entries (map treatment_of shares)) (record { number = message.number; treated = treated })
+        row_says far 0 entries shares are.rising (record { number = message.number; treated = treated }) entry share
+        (in_of_contains (rows far entries (map treatment_of shares))
+        (record { number = message.number; treated = treated })
         own.1) pair numbered
 
     -- A message has none like it before it where none before it has its number, or none its payload.
@@ -102,7 +106,7 @@ module _ (messages : List Message) (entries : List Entry) (shares : List Share) 
 
     used_treated : (number place : ℕ) (payload : List ℕ) (share : Share)
         → IsPair (Used number place payload) share entries shares
-        → IsTreatedSo messages (rows entries (map treatment_of shares)) place (λ t. t ≡ treatment_of share)
+        → IsTreatedSo messages (rows far entries (map treatment_of shares)) place (λ t. t ≡ treatment_of share)
     used_treated number place payload share pair message treated here is =
         let entry = Used number place payload in
         let used = All-contains (IsEntryOf messages) entries entry are.each
@@ -115,8 +119,8 @@ module _ (messages : List Message) (entries : List Entry) (shares : List Share) 
 
     doubtful_treated : (number first second : ℕ) (share : Share)
         → IsPair (Doubtful number first second) share entries shares
-        → IsTreatedSo messages (rows entries (map treatment_of shares)) first (λ t. t ≡ treatment_of share)
-        × IsTreatedSo messages (rows entries (map treatment_of shares)) second (λ t. t ≡ treatment_of share)
+        → IsTreatedSo messages (rows far entries (map treatment_of shares)) first (λ t. t ≡ treatment_of share)
+        × IsTreatedSo messages (rows far entries (map treatment_of shares)) second (λ t. t ≡ treatment_of share)
     doubtful_treated number first second share pair = (at_first, at_second)
       where
         entry : Entry
@@ -126,7 +130,7 @@ module _ (messages : List Message) (entries : List Entry) (shares : List Share) 
         doubts = All-contains (IsEntryOf messages) entries entry are.each
             (contains_of_in entries entry (pair_in entry share entries shares pair))
 
-        at_first : IsTreatedSo messages (rows entries (map treatment_of shares)) first (λ t. t ≡ treatment_of share)
+        at_first : IsTreatedSo messages (rows far entries (map treatment_of shares)) first (λ t. t ≡ treatment_of share)
         at_first message treated here is =
             let same = same_Some message doubts.one (sym here ∙ doubts.one_here) in
             let numbered = ap (λ (m : Message). m.number) same ∙ doubts.one_number in
@@ -134,7 +138,8 @@ module _ (messages : List Message) (entries : List Entry) (shares : List Share) 
             (not_like first message (λ before other below at same_number payloads.
             doubts.one_first before other below at (same_number ∙ numbered)))
 
-        at_second : IsTreatedSo messages (rows entries (map treatment_of shares)) second (λ t. t ≡ treatment_of share)
+        at_second : IsTreatedSo messages (rows far entries (map treatment_of shares)) second
+            (λ t. t ≡ treatment_of share)
         at_second message treated here is =
             let same = same_Some message doubts.other (sym here ∙ doubts.other_here) in
             let numbered = ap (λ (m : Message). m.number) same ∙ doubts.other_number in
@@ -144,7 +149,7 @@ module _ (messages : List Message) (entries : List Entry) (shares : List Share) 
             ∙ ap (λ (m : Message). m.payload) same)))
 
     abbrev Marked : LeftPart → Type 0
-    Marked part = IsMarkedAt messages (rows entries (map treatment_of shares)) part
+    Marked part = IsMarkedAt messages (rows far entries (map treatment_of shares)) part
 
     same_reason : (why : Reason) → AreAlikeReasons why why
     same_reason (reason.Packet one) = refl
@@ -212,22 +217,22 @@ module _ (messages : List Message) (entries : List Entry) (shares : List Share) 
         (alike_marked left others alike.3 (All-tail Marked (Events begun ended stretch) others all))
     alike_marked (BadNumber one place why ∷ left) (BadNumber other at fault ∷ others) alike all =
         All-cons Marked (BadNumber one place why) left
-        (subst (λ p. IsTreatedSo messages (rows entries (map treatment_of shares)) p (IsBadFor why)) (sym alike.1)
+        (subst (λ p. IsTreatedSo messages (rows far entries (map treatment_of shares)) p (IsBadFor why)) (sym alike.1)
         (λ message treated here is. bad_on why fault treated.treatment alike.2
         (All-head Marked (BadNumber other at fault) others all message treated here is)))
         (alike_marked left others alike.3 (All-tail Marked (BadNumber other at fault) others all))
     alike_marked (DoubtfulNumber one first second ∷ left) (DoubtfulNumber other place at ∷ others) alike all =
         let head = All-head Marked (DoubtfulNumber other place at) others all in
         All-cons Marked (DoubtfulNumber one first second) left (
-          subst (λ p. IsTreatedSo messages (rows entries (map treatment_of shares)) p (λ t. t ≡ treatment.Doubtful))
+          subst (λ p. IsTreatedSo messages (rows far entries (map treatment_of shares)) p (λ t. t ≡ treatment.Doubtful))
               (sym alike.1) head.0,
-          subst (λ p. IsTreatedSo messages (rows entries (map treatment_of shares)) p (λ t. t ≡ treatment.Doubtful))
+          subst (λ p. IsTreatedSo messages (rows far entries (map treatment_of shares)) p (λ t. t ≡ treatment.Doubtful))
               (sym alike.2) head.1,
         )
         (alike_marked left others alike.3 (All-tail Marked (DoubtfulNumber other place at) others all))
     alike_marked (AloneNumber one place ∷ left) (AloneNumber other at ∷ others) alike all =
         All-cons Marked (AloneNumber one place) left
-        (subst (λ p. IsTreatedSo messages (rows entries (map treatment_of shares)) p (λ t. t ≡ treatment.Alone))
+        (subst (λ p. IsTreatedSo messages (rows far entries (map treatment_of shares)) p (λ t. t ≡ treatment.Alone))
         (sym alike.1) (All-head Marked (AloneNumber other at) others all))
         (alike_marked left others alike.2 (All-tail Marked (AloneNumber other at) others all))
     alike_marked left others alike all = absurd alike

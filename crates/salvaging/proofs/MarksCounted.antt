@@ -12,13 +12,13 @@ use Rattle.salvaging.specs.LeftParts.{LeftPart, Missing, Events, BadNumber, Doub
 use Rattle.salvaging.specs.Shares.{AllShareBeyond, EntriesShare, HartShares, Share, SharesBeyond}
 use Rattle.salvaging.specs.Shares.{Adds, Passes, Spoils, StandsAlone, Doubts}
 use Rattle.salvaging.specs.TreatedParts.{marks_in, marks_of}
-use Rattle.salvaging.specs.Treatments.{Row, added_of, rows, treatment_of}
+use Rattle.salvaging.specs.Treatments.{Row, added_of, own_row, rows, treatment_of}
 use Rattle.salvaging.specs.declared.reason.Reason.{Reason}
 use Rattle.salvaging.specs.declared.treatment.Added.{Added}
 use Rattle.salvaging.specs.declared.treatment.Treated.{Treated}
 use Rattle.salvaging.specs.declared.treatment.Treatment.{Treatment}
 use Rattle.salvaging.specs.declared.treatment.Treatment.TheVariants as treatment
-use Rattle.salvaging.proofs.CountedRows.{NoneDoubtful, count_cons, own_row}
+use Rattle.salvaging.proofs.CountedRows.{NoneDoubtful, count_cons}
 use Rattle.salvaging.proofs.PartsTreated.{shares_many, used_rest}
 
 -- A test of parts and a test of what is done go together: both pass bad numbers, or numbers that stand alone, and no
@@ -135,43 +135,45 @@ module _ (q : LeftPart → Bool) (p : Treatment → Bool) (go : GoTogether q p) 
       (go.alone one place ∙ sym (go.alone other at)) (alike_count left others alike.2)
   alike_count left others alike = absurd alike
 
-  entries_count : (entries : List Entry) (shares : List Share) → SuitAll entries shares
+  entries_count : (far : Entry → Bool) (entries : List Entry) (shares : List Share) → SuitAll entries shares
       → count_by q (marks_of entries shares)
-      ≡ count_by (λ (row : Row). p row.treated.treatment) (rows entries (map treatment_of shares))
-  entries_count [] shares suit = refl
-  entries_count (entry ∷ entries) [] suit = refl
-  entries_count (Used number place payload ∷ entries) (Spoils why ∷ shares) suit =
+      ≡ count_by (λ (row : Row). p row.treated.treatment) (rows far entries (map treatment_of shares))
+  entries_count far [] shares suit = refl
+  entries_count far (entry ∷ entries) [] suit = refl
+  entries_count far (Used number place payload ∷ entries) (Spoils why ∷ shares) suit =
       same_more q done_so (BadNumber number place why) (marks_of entries shares)
-      (own_row (Used number place payload) entries (treatment.Bad why) (map treatment_of shares))
-      (rows entries (map treatment_of shares)) (go.bad number place why why) (entries_count entries shares suit)
-  entries_count (Used number place payload ∷ entries) (StandsAlone ∷ shares) suit =
+      (own_row far (Used number place payload) entries (treatment.Bad why) (map treatment_of shares))
+      (rows far entries (map treatment_of shares)) (go.bad number place why why) (entries_count far entries shares suit)
+  entries_count far (Used number place payload ∷ entries) (StandsAlone ∷ shares) suit =
       same_more q done_so (AloneNumber number place) (marks_of entries shares)
-      (own_row (Used number place payload) entries treatment.Alone (map treatment_of shares))
-      (rows entries (map treatment_of shares)) (go.alone number place) (entries_count entries shares suit)
-  entries_count (Used number place payload ∷ entries) (Adds events ∷ shares) suit =
-      entries_count entries shares suit
-      ∙ sym (none_more done_so (own_row (Used number place payload) entries (treatment.Taken (added_of events))
-      (map treatment_of shares)) (rows entries (map treatment_of shares)) (go.taken (added_of events)))
-  entries_count (Used number place payload ∷ entries) (Passes ∷ shares) suit =
-      entries_count entries shares suit
-      ∙ sym (none_more done_so (own_row (Used number place payload) entries treatment.Passed (map treatment_of shares))
-      (rows entries (map treatment_of shares)) go.passed)
-  entries_count (Used number place payload ∷ entries) (Doubts ∷ shares) suit =
-      entries_count entries shares suit
-      ∙ sym (none_more done_so (own_row (Used number place payload) entries treatment.Doubtful (map treatment_of shares))
-      (rows entries (map treatment_of shares)) go.doubts)
-  entries_count (Doubtful number first second ∷ entries) (Doubts ∷ shares) suit =
+      (own_row far (Used number place payload) entries treatment.Alone (map treatment_of shares))
+      (rows far entries (map treatment_of shares)) (go.alone number place) (entries_count far entries shares suit)
+  entries_count far (Used number place payload ∷ entries) (Adds events ∷ shares) suit =
+      entries_count far entries shares suit
+      ∙ sym (none_more done_so (own_row far (Used number place payload) entries (treatment.Taken (added_of events))
+      (map treatment_of shares)) (rows far entries (map treatment_of shares)) (go.taken (added_of events)))
+  entries_count far (Used number place payload ∷ entries) (Passes ∷ shares) suit =
+      entries_count far entries shares suit
+      ∙ sym (none_more done_so (own_row far (Used number place payload) entries treatment.Passed (map treatment_of
+      shares))
+      (rows far entries (map treatment_of shares)) go.passed)
+  entries_count far (Used number place payload ∷ entries) (Doubts ∷ shares) suit =
+      entries_count far entries shares suit
+      ∙ sym (none_more done_so (own_row far (Used number place payload) entries treatment.Doubtful (map treatment_of
+      shares))
+      (rows far entries (map treatment_of shares)) go.doubts)
+  entries_count far (Doubtful number first second ∷ entries) (Doubts ∷ shares) suit =
       none_more q (DoubtfulNumber number first second) (marks_of entries shares) (go.doubtful number first second)
-      ∙ entries_count entries shares suit.1
-      ∙ sym (none_more done_so (own_row (Doubtful number first second) entries treatment.Doubtful
-      (map treatment_of shares)) (rows entries (map treatment_of shares)) go.doubts)
-  entries_count (Doubtful number first second ∷ entries) (Adds events ∷ shares) suit =
+      ∙ entries_count far entries shares suit.1
+      ∙ sym (none_more done_so (own_row far (Doubtful number first second) entries treatment.Doubtful
+      (map treatment_of shares)) (rows far entries (map treatment_of shares)) go.doubts)
+  entries_count far (Doubtful number first second ∷ entries) (Adds events ∷ shares) suit =
       let never : Adds events ≡ Doubts = suit.0 in cc
-  entries_count (Doubtful number first second ∷ entries) (Passes ∷ shares) suit =
+  entries_count far (Doubtful number first second ∷ entries) (Passes ∷ shares) suit =
       let never : Passes ≡ Doubts = suit.0 in cc
-  entries_count (Doubtful number first second ∷ entries) (Spoils why ∷ shares) suit =
+  entries_count far (Doubtful number first second ∷ entries) (Spoils why ∷ shares) suit =
       let never : Spoils why ≡ Doubts = suit.0 in cc
-  entries_count (Doubtful number first second ∷ entries) (StandsAlone ∷ shares) suit =
+  entries_count far (Doubtful number first second ∷ entries) (StandsAlone ∷ shares) suit =
       let never : StandsAlone ≡ Doubts = suit.0 in cc
 
   pub doubts_fail : (entries : List Entry) (shares : List Share) → SuitAll entries shares
@@ -183,9 +185,10 @@ module _ (q : LeftPart → Bool) (p : Treatment → Bool) (go : GoTogether q p) 
       (ap (λ s. p (treatment_of s)) suit.0 ∙ go.doubts, doubts_fail entries shares suit.1)
 
   -- As many rows pass the test as parts do.
-  pub rows_of_parts : (parts : List LeftPart) (entries : List Entry) (shares : List Share)
+  pub rows_of_parts : (far : Entry → Bool) (parts : List LeftPart) (entries : List Entry) (shares : List Share)
       → AreAlikeParts (marks_in parts) (marks_of entries shares) → SuitAll entries shares
-      → count_by (λ (row : Row). p row.treated.treatment) (rows entries (map treatment_of shares)) ≡ count_by q parts
-  rows_of_parts parts entries shares alike suit =
-      sym (entries_count entries shares suit) ∙ sym (alike_count (marks_in parts) (marks_of entries shares) alike)
+      → count_by (λ (row : Row). p row.treated.treatment) (rows far entries (map treatment_of shares)) ≡ count_by q
+      parts
+  rows_of_parts far parts entries shares alike suit =
+      sym (entries_count far entries shares suit) ∙ sym (alike_count (marks_in parts) (marks_of entries shares) alike)
       ∙ marks_count parts

@@ -16,22 +16,16 @@ use Rattle.decoder.specs.Describes.{Describes}
 use Rattle.decoder.specs.Order.{IsOpen}
 use Rattle.message.specs.declared.message.Message.{Message}
 use Rattle.losses.specs.Runs.{Run, first_run, longer, run_behind, run_of, trace_of_run}
-use Rattle.salvaging.specs.AlikeParts.{AreAlikeHarts, AreAlikeParts, AreAlikeReasons}
+use Rattle.salvaging.specs.AlikeParts.{AreAlikeParts, AreAlikeReasons}
 use Rattle.salvaging.specs.Bad.{IsBad, IsGood}
 use Rattle.salvaging.specs.Copies.{AllDiffer, AreAlike, AreCopies, HasLike}
-use Rattle.salvaging.specs.Ends.{AllLeaveBeyond, AreCutAtEnd, HartLeaves, LeavesBeyond, none_good}
-use Rattle.salvaging.specs.Entries.{Entry, Used, Doubtful, is_closed, next_used}
-use Rattle.salvaging.specs.Late.{late}
-use Rattle.salvaging.specs.Leaving.{EntriesLeave, LeavesBefore, RunLeaves, UsedLeaves, kept, own_mode}
+use Rattle.salvaging.specs.Ends.{AllLeaveBeyond, HartLeaves, LeavesBeyond, none_good}
+use Rattle.salvaging.specs.Entries.{Entry, Used, Doubtful, next_used}
+use Rattle.salvaging.specs.Leaving.{EntriesLeave, LeavesBefore, RunLeaves, UsedLeaves, kept}
 use Rattle.salvaging.specs.LeftParts.{LeftPart, Missing, Events, BadNumber, DoubtfulNumber, AloneNumber, gap, stretch}
-use Rattle.salvaging.specs.PartsIn.{parts_in}
-use Rattle.salvaging.specs.Salvaged.{IsSalvagedHart}
 use Rattle.salvaging.specs.declared.reason.Reason.{Reason}
 use Rattle.salvaging.specs.declared.reason.Reason.TheVariants as reason
-use Rattle.salvaging.specs.declared.salvaged.SalvagedHart.{SalvagedHart}
-use Rattle.salvaging.proofs.CutOnce.{cut_once}
 use Rattle.salvaging.proofs.EntriesOfLog.{same_packet}
-use Rattle.salvaging.proofs.EntriesOnce.{entries_once}
 use Rattle.salvaging.proofs.Members.{IsIn, contains_of_in, in_of_contains}
 
 -- Of distinct messages there are as many.
@@ -346,7 +340,7 @@ module _ (words : Words) (program : IsProgram words) (mode : Mode) where
       (all_beyond entries left others leave.1 too.1)
 
   -- What a hart leaves is the same, and the same of it is good.
-  hart_once : (upto beyond : List Entry) (goods others : List Bool) (left parts : List LeftPart)
+  pub hart_once : (upto beyond : List Entry) (goods others : List Bool) (left parts : List LeftPart)
       → HartLeaves words mode upto beyond goods left → HartLeaves words mode upto beyond others parts
       → (goods ≡ others) × AreAlikeParts left parts
   hart_once upto beyond goods others left parts leave too =
@@ -357,29 +351,3 @@ module _ (words : Words) (program : IsProgram words) (mode : Mode) where
             (alike_append leave.first leave.after too.first too.after once.1
             (all_beyond beyond leave.after too.after leave.beyond_leaves too.beyond_leaves)),
       )
-
-module _ (words : Words) (program : IsProgram words) (mode : Mode) where
-  -- A hart with these messages is salvaged in one way.
-  pub salvaged_once : {A B : Type 0} (messages : List Message) (one : SalvagedHart A) (other : SalvagedHart B)
-      → IsSalvagedHart words mode messages one → IsSalvagedHart words mode messages other → AreAlikeHarts one other
-  salvaged_once messages one other salvaged too =
-      let same = entries_once messages salvaged.entries too.entries salvaged.are_entries too.are_entries in
-      let own : own_mode mode too.entries ≡ own_mode mode salvaged.entries = sym (ap (own_mode mode) same) in
-      let cut = subst (λ m. AreCutAtEnd words m salvaged.entries too.upto too.beyond) own
-      (subst (λ es. AreCutAtEnd words (own_mode mode too.entries) es too.upto too.beyond) (sym same) too.cut) in
-      let once = cut_once words (own_mode mode salvaged.entries) salvaged.entries salvaged.upto too.upto salvaged.beyond
-      too.beyond salvaged.cut cut in
-      let leave = subst (λ es. HartLeaves words (own_mode mode salvaged.entries) salvaged.upto es too.goods
-      (parts_in other.parts.items)) (sym once.1)
-      (subst (λ es. HartLeaves words (own_mode mode salvaged.entries) es too.beyond too.goods
-      (parts_in other.parts.items)) (sym once.0)
-      (subst (λ m. HartLeaves words m too.upto too.beyond too.goods (parts_in other.parts.items)) own too.parts)) in
-      let left = hart_once words program (own_mode mode salvaged.entries) salvaged.upto salvaged.beyond salvaged.goods
-      too.goods (parts_in one.parts.items) (parts_in other.parts.items) salvaged.parts leave in
-      record {
-        parts = left.1;
-        copies = copies_once messages one.copies other.copies salvaged.copies too.copies;
-        late = salvaged.late ∙ ap (late salvaged.entries) left.0 ∙ ap (λ es. late es too.goods) same ∙ sym too.late;
-        closed = salvaged.closed ∙ ap is_closed once.0 ∙ sym too.closed;
-        mode = salvaged.reads ∙ sym own ∙ sym too.reads;
-      }

@@ -298,25 +298,25 @@ count_added (event ∷ events) = refl
 none_more : {count events : ℕ} → count ≡ events → 0 + count ≡ events
 none_more same = omega (arith, same)
 
-rows_count : (entries : List Entry) (shares : List Share) → length shares ≡ length entries
-    → events_taken (rows entries (map treatment_of shares)) ≡ length (added_in shares)
-rows_count [] [] many = refl
-rows_count [] (share ∷ shares) many = absurd (omega (arith, many))
-rows_count (entry ∷ entries) [] many = absurd (omega (arith, many))
-rows_count (entry ∷ entries) (Adds events ∷ shares) many =
-    let rest = rows_count entries shares (omega (arith, many)) in
+rows_count : (far : Entry → Bool) (entries : List Entry) (shares : List Share) → length shares ≡ length entries
+    → events_taken (rows far entries (map treatment_of shares)) ≡ length (added_in shares)
+rows_count far [] [] many = refl
+rows_count far [] (share ∷ shares) many = absurd (omega (arith, many))
+rows_count far (entry ∷ entries) [] many = absurd (omega (arith, many))
+rows_count far (entry ∷ entries) (Adds events ∷ shares) many =
+    let rest = rows_count far entries shares (omega (arith, many)) in
     let own = count_added events in
     let both = length-append events (added_in shares) in
-    ap (λ n. n + events_taken (rows entries (map treatment_of shares))) own ∙ ap (λ n. length events + n) rest ∙ sym
+    ap (λ n. n + events_taken (rows far entries (map treatment_of shares))) own ∙ ap (λ n. length events + n) rest ∙ sym
     both
-rows_count (entry ∷ entries) (Passes ∷ shares) many =
-    none_more (rows_count entries shares (omega (arith, many)))
-rows_count (entry ∷ entries) (Spoils why ∷ shares) many =
-    none_more (rows_count entries shares (omega (arith, many)))
-rows_count (entry ∷ entries) (StandsAlone ∷ shares) many =
-    none_more (rows_count entries shares (omega (arith, many)))
-rows_count (entry ∷ entries) (Doubts ∷ shares) many =
-    none_more (rows_count entries shares (omega (arith, many)))
+rows_count far (entry ∷ entries) (Passes ∷ shares) many =
+    none_more (rows_count far entries shares (omega (arith, many)))
+rows_count far (entry ∷ entries) (Spoils why ∷ shares) many =
+    none_more (rows_count far entries shares (omega (arith, many)))
+rows_count far (entry ∷ entries) (StandsAlone ∷ shares) many =
+    none_more (rows_count far entries shares (omega (arith, many)))
+rows_count far (entry ∷ entries) (Doubts ∷ shares) many =
+    none_more (rows_count far entries shares (omega (arith, many)))
 
 -- The parts of a hart and what its entries do, of the same messages.
 pub parts_treated : {A : Type 0} (words : Words) (mode : Mode) (messages : List Message) (hart : SalvagedHart A)
@@ -342,7 +342,8 @@ parts_treated words mode messages hart program salvaged treats =
     agree.marks in
     record {
       marks = marks;
-      places = marked_parts messages treats.entries treats.shares treats.are_entries (parts_in hart.parts.items) marks;
+      places = marked_parts treats.are_far.among messages treats.entries treats.shares treats.are_entries
+          (parts_in hart.parts.items) marks;
       events = agree.events;
-      count = rows_count treats.entries treats.shares many ∙ sym (ap length agree.events);
+      count = rows_count treats.are_far.among treats.entries treats.shares many ∙ sym (ap length agree.events);
     }

@@ -7,7 +7,7 @@ use Rattle.std.specs.Prelude.{All}
 use Rattle.std.specs.declared.vec.Vec.{Vec}
 use Rattle.message.specs.declared.message.Message.{Message}
 use Rattle.salvaging.specs.declared.received.ReceivedMessage.{ReceivedMessage}
-use Rattle.salvaging.specs.steps.Arrivals.{HaveNumbers, arrivals_in, placed_from}
+use Rattle.salvaging.specs.steps.Arrivals.{Arrival, arrivals_in, placed_from}
 
 -- An item of a list with one more at its end.
 pub slice_get-push : {X : Type 0} (xs : List X) (y : X) (k : ℕ) (x : X) → slice_get (xs ++ y ∷ []) k ≡ Some x
@@ -37,10 +37,11 @@ one_more_hart IsOf lists harts new i list own count at is holds before k one oth
     (holds messages (ap (λ (v : Vec ReceivedMessage _). arrivals_in v.items) (sym same) ∙ placed)))
     (slice_get-push harts own k other (subst (λ l. slice_get l k ≡ Some other) is at_other))
 
--- The list that is taken out next has numbers that a hart may have.
-pub next_numbers : {A : Type 0} (first : List (Vec ReceivedMessage A)) (i : ℕ) (list came : Vec ReceivedMessage A)
-    → All (λ (list : Vec ReceivedMessage A). HaveNumbers (arrivals_in list.items)) first
-    → slice_get first i ≡ Some list → came ≡ list → HaveNumbers (arrivals_in came.items)
-next_numbers first i list came have at is =
-    subst (λ (v : Vec ReceivedMessage _). HaveNumbers (arrivals_in v.items))
+-- What holds of each list holds of the one that is taken out next.
+pub next_list : {A : Type 0} (Holds : List Arrival → Type 0) (first : List (Vec ReceivedMessage A)) (i : ℕ)
+    (list came : Vec ReceivedMessage A)
+    → All (λ (list : Vec ReceivedMessage A). Holds (arrivals_in list.items)) first
+    → slice_get first i ≡ Some list → came ≡ list → Holds (arrivals_in came.items)
+next_list Holds first i list came have at is =
+    subst (λ (v : Vec ReceivedMessage _). Holds (arrivals_in v.items))
     (get_or_from_slice_get first i list list at ∙ sym is) (have i list (slice_get_within first i list at))

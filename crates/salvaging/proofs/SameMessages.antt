@@ -40,7 +40,7 @@ rising_at from messages k message rising at =
     not_below from (map number_of messages) message.number rising (number_in messages message (in_at messages k message
     at))
 
-places_rise : (from : ℕ) (messages : List Message) (i j : ℕ) (one other : Message)
+pub places_rise : (from : ℕ) (messages : List Message) (i j : ℕ) (one other : Message)
     → AreRising from (map number_of messages) → slice_get messages i ≡ Some one → slice_get messages j ≡ Some other
     → i < j → one.number < other.number
 places_rise from [] i j one other rising at_one at_other below = cc

@@ -1,5 +1,5 @@
 -- What is done with the messages of a hart, put together.
-use Rattle.std.proofs.Common.{◌≡◌, ℕ, zero, suc, List, [], ◌∷◌, length, map, refl, ap, arith}
+use Rattle.std.proofs.Common.{◌≡◌, ℕ, Bool, zero, suc, List, [], ◌∷◌, length, map, refl, ap, arith}
 use Rattle.std.specs.Prelude.{Result, Ok, Err}
 use Rattle.payload.specs.Reading.{reading}
 use Rattle.payload.specs.declared.fault.PackFault.{PackFault}
@@ -37,9 +37,10 @@ own_again mode (Used number place payload ∷ entries) = by_again number mode (r
 own_again mode (Doubtful number first second ∷ entries) = refl
 
 -- The numbers of the rows are those of the entries.
-pub rows_numbers : (entries : List Entry) (treatments : List Treatment) → length treatments ≡ length entries
-    → numbers_in (rows entries treatments) ≡ map entry_number entries
-rows_numbers [] treatments long = refl
-rows_numbers (entry ∷ entries) [] long = absurd (omega (arith, long))
-rows_numbers (entry ∷ entries) (one ∷ treatments) long =
-    ap (λ l. entry_number entry ∷ l) (rows_numbers entries treatments (omega (arith, long)))
+pub rows_numbers : (far : Entry → Bool) (entries : List Entry) (treatments : List Treatment)
+    → length treatments ≡ length entries
+    → numbers_in (rows far entries treatments) ≡ map entry_number entries
+rows_numbers far [] treatments long = refl
+rows_numbers far (entry ∷ entries) [] long = absurd (omega (arith, long))
+rows_numbers far (entry ∷ entries) (one ∷ treatments) long =
+    ap (λ l. entry_number entry ∷ l) (rows_numbers far entries treatments (omega (arith, long)))

@@ -1,7 +1,7 @@
 -- Messages of a hart that come in turn, none lost, repeated or damaged: each is taken with the events that it adds.
-use Rattle.std.proofs.Common.{◌≡◌, inl, inr, ℕ, zero, suc, ◌+◌, ◌-◌, ◌<◌, ◌^◌, ◌++◌, true, false, List}
+use Rattle.std.proofs.Common.{◌≡◌, inl, inr, ℕ, zero, suc, ◌+◌, ◌-◌, ◌<◌, ◌^◌, ◌++◌, ◌&&◌, Bool, true, false, List}
 use Rattle.std.proofs.Common.{[], ◌∷◌, Option, Some, None, map, slice_get, take, refl, sym, ap, subst, ◌∙◌, arith}
-use Rattle.std.specs.Prelude.{Ok}
+use Rattle.std.specs.Prelude.{Ok, not}
 use Rattle.std.proofs.lemmas.List.{append-nil, append_cancel_left}
 use Rattle.std.proofs.lemmas.Option.{same_Some}
 use Rattle.retire.specs.declared.event.Event.{Event}
@@ -21,6 +21,8 @@ use Rattle.losses.proofs.RunLemmas.{describes_nothing}
 use Rattle.losses.proofs.InTurn.{AreTakenFrom, taken_rise}
 use Rattle.salvaging.specs.Bad.{IsGood}
 use Rattle.salvaging.specs.Entries.{Entry, Used, Doubtful, next_used}
+use Rattle.salvaging.specs.Far.{believed}
+use Rattle.salvaging.specs.Late.{is_late}
 use Rattle.salvaging.specs.Leaving.{own_mode}
 use Rattle.salvaging.specs.Shares.{AllShareBeyond, EntriesShare, Share, UsedShares}
 use Rattle.salvaging.specs.Shares.{Adds, Passes, Spoils, StandsAlone, Doubts}
@@ -32,6 +34,8 @@ use Rattle.salvaging.proofs.CollectedToo.{none_late_before}
 use Rattle.salvaging.proofs.CountedRows.{one_row}
 use Rattle.salvaging.proofs.EntriesCollected.{collected_has_no_end}
 use Rattle.salvaging.proofs.EntriesOfLog.{same_packet}
+use Rattle.salvaging.proofs.FarLaws.{in_order_among}
+use Rattle.salvaging.proofs.FarNone.{come_in_order}
 use Rattle.salvaging.proofs.MarkedPlaces.{before_it}
 use Rattle.salvaging.proofs.Members.{IsIn, in_of_contains, no_item}
 use Rattle.salvaging.proofs.OneWay.{good_not_bad}
@@ -85,27 +89,32 @@ in_turn_taken words place packets before (message ∷ messages) (one ∷ added) 
     )
 
 -- Rows of entries that add events, in time.
-rows_taken : (base : ℕ) (entries : List Entry) (messages : List Message) (added : List (List Event))
+rows_taken : (far : Entry → Bool) (base : ℕ) (entries : List Entry) (messages : List Message)
+    (added : List (List Event)) → ((x : Entry) → IsIn x entries → far x ≡ false)
     → AreMessages base entries messages → (k : ℕ) (message : Message) (one : List Event)
     → slice_get messages k ≡ Some message → slice_get added k ≡ Some one
-    → IsIn (row_of message.number (treatment.Taken (added_of one)) false)
-    (rows entries (map treatment_of (map Adds added)))
-rows_taken base entries [] added are k message one here adds = cc
-rows_taken base entries (first ∷ messages) [] are k message one here adds = cc
-rows_taken base [] (first ∷ messages) (some ∷ added) are k message one here adds = absurd are
-rows_taken base (Doubtful number at other ∷ entries) (first ∷ messages) (some ∷ added) are k message one here adds =
+    → IsIn (row_of message.number (treatment.Taken (added_of one)) false false)
+    (rows far entries (map treatment_of (map Adds added)))
+rows_taken far base entries [] added none are k message one here adds = cc
+rows_taken far base entries (first ∷ messages) [] none are k message one here adds = cc
+rows_taken far base [] (first ∷ messages) (some ∷ added) none are k message one here adds = absurd are
+rows_taken far base (Doubtful number at other ∷ entries) (first ∷ messages) (some ∷ added) none are k message one here
+    adds =
     absurd are
-rows_taken base (Used number at payload ∷ entries) (first ∷ messages) (some ∷ added)
+rows_taken far base (Used number at payload ∷ entries) (first ∷ messages) (some ∷ added) none
     (number_is, payload_is, at_is, are) zero message one here adds =
     let same = same_Some first message here in
-    let late = none_late_before at (base + 1) entries messages (map is_good_treatment (map treatment_of (map Adds added)))
-    are (omega (arith, at_is)) in
-    inl (sym (ap (λ b. row_of number (treatment.Taken (added_of some)) b) late
-    ∙ ap (λ n. row_of n (treatment.Taken (added_of some)) false) (number_is ∙ ap (λ (m : Message). m.number) same)
-    ∙ ap (λ es. row_of message.number (treatment.Taken (added_of es)) false) (same_Some some one adds)))
-rows_taken base (Used number at payload ∷ entries) (first ∷ messages) (some ∷ added)
+    let later = believed (map is_good_treatment (map treatment_of (map Adds added))) (map far entries) in
+    let late = none_late_before at (base + 1) entries messages later are (omega (arith, at_is)) in
+    let taken = treatment.Taken (added_of some) in
+    inl (sym (ap (λ b. row_of number taken b (not b && is_late at entries later))
+    (none (Used number at payload) (inl refl))
+    ∙ ap (λ b. row_of number taken false b) late
+    ∙ ap (λ n. row_of n taken false false) (number_is ∙ ap (λ (m : Message). m.number) same)
+    ∙ ap (λ es. row_of message.number (treatment.Taken (added_of es)) false false) (same_Some some one adds)))
+rows_taken far base (Used number at payload ∷ entries) (first ∷ messages) (some ∷ added) none
     (number_is, payload_is, at_is, are) (suc k) message one here adds =
-    inr (rows_taken (base + 1) entries messages added are k message one here adds)
+    inr (rows_taken far (base + 1) entries messages added (λ x there. none x (inr there)) are k message one here adds)
 
 module _ (words : Words) (program : IsProgram words) (mode : Mode) where
   -- The message closes the trace only where none follows it.
@@ -216,7 +225,7 @@ module _ (words : Words) (program : IsProgram words) (mode : Mode) (messages : L
   -- What is done with the message at a place.
   pub taken_whole : (k : ℕ) (message : Message) (one : Treated) (events : List Event) → slice_get messages k ≡ Some message
       → slice_get added k ≡ Some events → IsTreated messages (hart_rows treats) k message one
-      → one ≡ record { treatment = treatment.Taken (added_of events); late = false }
+      → one ≡ record { treatment = treatment.Taken (added_of events); far = false; late = false }
   taken_whole k message one events here adds (inl ((like, contains, alike), copied)) =
       let before = before_it k messages like (in_of_contains (take k messages) like contains) in
       let below = before.1 in
@@ -225,9 +234,13 @@ module _ (words : Words) (program : IsProgram words) (mode : Mode) (messages : L
       absurd (omega (arith, below, same))
   taken_whole k message one events here adds (inr (first, contains)) =
       let row : Row = record { number = message.number; treated = one } in
-      let all = subst (λ ss. IsIn (row_of message.number (treatment.Taken (added_of events)) false)
-      (rows treats.entries (map treatment_of ss))) (sym shares_are)
-      (rows_taken 0 treats.entries messages added are k message events here adds) in
-      ap (λ (r : Row). r.treated) (one_row 0 treats.entries (map treatment_of treats.shares) treats.are_entries.rising
-      row (row_of message.number (treatment.Taken (added_of events)) false)
+      let far = treats.are_far.among in
+      let none = in_order_among messages treats.entries treats.are_entries
+      (come_in_order messages (taken_rise newcomer messages taken)) treats.far treats.are_far in
+      let all = subst (λ ss. IsIn (row_of message.number (treatment.Taken (added_of events)) false false)
+      (rows far treats.entries (map treatment_of ss))) (sym shares_are)
+      (rows_taken far 0 treats.entries messages added none are k message events here adds) in
+      ap (λ (r : Row). r.treated) (one_row far 0 treats.entries (map treatment_of treats.shares)
+      treats.are_entries.rising
+      row (row_of message.number (treatment.Taken (added_of events)) false false)
       (in_of_contains (hart_rows treats) row contains) all refl)

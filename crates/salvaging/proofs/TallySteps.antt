@@ -9,6 +9,7 @@ use Rattle.rvclass.specs.Words.{Words}
 use Rattle.payload.specs.declared.mode.Mode.{Mode}
 use Rattle.losses.specs.Runs.{Run, first_run, run_behind, run_of}
 use Rattle.salvaging.specs.Entries.{Entry, Used, Doubtful, entry_number, is_used, next_used}
+use Rattle.salvaging.specs.FarGaps.{far_among, far_if, treatment_of_far}
 use Rattle.salvaging.specs.Late.{counted}
 use Rattle.salvaging.specs.Shares.{AllShareBeyond, EntriesShare, HartShares, Share, SharesBeyond, UsedShares}
 use Rattle.salvaging.specs.Shares.{Adds, Passes, Spoils, StandsAlone, Doubts}
@@ -20,7 +21,7 @@ use Rattle.salvaging.specs.declared.treatment.Treatment.{Treatment}
 use Rattle.salvaging.specs.steps.Arrivals.{Arrival}
 use Rattle.salvaging.specs.steps.Grouping.{are_alike, copies_by, copies_on, entries_by, entries_on, entry_by}
 use Rattle.salvaging.specs.steps.Grouping.{entry_with, join_or_begin, one_more}
-use Rattle.salvaging.specs.steps.Marks.{is_good, is_passed, is_taken, is_used as says_used, verdict_of}
+use Rattle.salvaging.specs.steps.Marks.{far_verdict, is_good, is_passed, is_taken, is_used as says_used, verdict_of}
 use Rattle.salvaging.specs.steps.Trails.{goods_of}
 use Rattle.salvaging.proofs.CountedRows.{count_cons}
 use Rattle.salvaging.proofs.OneMore.{number_kept}
@@ -69,6 +70,25 @@ verdicts_good [] = refl
 verdicts_good (share ∷ shares) =
     ap (λ b. b ∷ map is_good (map verdict_of (map treatment_of shares))) (says_good share)
     ∙ ap (λ l. is_good_treatment (treatment_of share) ∷ l) (verdicts_good shares)
+
+-- The far numbers by verdicts are those by what entries do.
+pub far_verdicts : (entries : List Entry) (shares : List Share) (flags : List Bool)
+    → far_among far_verdict entries (map verdict_of (map treatment_of shares)) flags
+    ≡ far_among (λ share. treatment_of_far (treatment_of share)) entries shares flags
+far_verdicts [] shares flags = refl
+far_verdicts (entry ∷ entries) [] flags = refl
+far_verdicts (entry ∷ entries) (share ∷ shares) [] = refl
+far_verdicts (entry ∷ entries) (share ∷ shares) (flag ∷ flags) =
+    ap (λ t. far_if flag entry t ++ far_among far_verdict entries (map verdict_of (map treatment_of shares)) flags)
+    (says_far share)
+    ∙ ap (λ l. far_if flag entry (treatment_of_far (treatment_of share)) ++ l) (far_verdicts entries shares flags)
+  where
+    says_far : (share : Share) → far_verdict (verdict_of (treatment_of share)) ≡ treatment_of_far (treatment_of share)
+    says_far (Adds events) = refl
+    says_far Passes = refl
+    says_far (Spoils why) = refl
+    says_far StandsAlone = refl
+    says_far Doubts = refl
 
 module _ (words : Words) (mode : Mode) where
   used_by_share : (run : Run) (payload : List ℕ) (following : Option ℕ) (share : Share) (Rest : Run → Type 0)

@@ -15,12 +15,13 @@ use Rattle.salvaging.proofs.CountedRows.{AreTreatedBy, count_cons}
 use Rattle.salvaging.proofs.Members.{IsIn, contains_of_in, in_of_contains}
 
 -- The row of a number says what its entry does.
-pub row_share : (entries : List Entry) (shares : List Share) (row : Row) → IsIn row (rows entries (map treatment_of shares))
+pub row_share : (far : Entry → Bool) (entries : List Entry) (shares : List Share) (row : Row)
+    → IsIn row (rows far entries (map treatment_of shares))
     → (share : Share) × (row.treated.treatment ≡ treatment_of share)
-row_share [] shares row there = absurd there
-row_share (entry ∷ entries) [] row there = absurd there
-row_share (entry ∷ entries) (share ∷ shares) row (inl is) = (share, ap (λ (r : Row). r.treated.treatment) is)
-row_share (entry ∷ entries) (share ∷ shares) row (inr there) = row_share entries shares row there
+row_share far [] shares row there = absurd there
+row_share far (entry ∷ entries) [] row there = absurd there
+row_share far (entry ∷ entries) (share ∷ shares) row (inl is) = (share, ap (λ (r : Row). r.treated.treatment) is)
+row_share far (entry ∷ entries) (share ∷ shares) row (inr there) = row_share far entries shares row there
 
 share_no_copy : (share : Share) → makes_copy (treatment_of share) ≡ false
 share_no_copy (Adds events) = refl
@@ -144,10 +145,11 @@ copies_through front (message ∷ messages) (one ∷ treated) count copies long 
         (subst (λ l. ¬ HasLike l message) (append-nil front) none)))
 
 -- Of a hart's messages those are copies that are treated as such.
-pub treated_copies : (messages : List Message) (entries : List Entry) (shares : List Share) (treated : List Treated)
-    → AreTreatedBy messages (rows entries (map treatment_of shares)) treated
+pub treated_copies : (far : Entry → Bool) (messages : List Message) (entries : List Entry) (shares : List Share)
+    (treated : List Treated)
+    → AreTreatedBy messages (rows far entries (map treatment_of shares)) treated
     → AreCopies messages (count_treated makes_copy treated)
-treated_copies messages entries shares treated by =
+treated_copies far messages entries shares treated by =
     let all : 0 + count_treated makes_copy treated ≡ count_treated makes_copy treated = omega arith in
     subst (AreCopies messages) all
     (copies_through [] messages treated 0 no_copies by.long (λ k message one here done.
@@ -161,11 +163,11 @@ treated_copies messages entries shares treated by =
     }
 
     says : (k : ℕ) (message : Message) (one : Treated)
-        → IsTreated messages (rows entries (map treatment_of shares)) k message one
+        → IsTreated messages (rows far entries (map treatment_of shares)) k message one
         → SaysLike (take k messages) message one
     says k message one (inl (like, is)) = inl (like, ap (λ (t : Treated). makes_copy t.treatment) is)
     says k message one (inr (none, contains)) =
         let row : Row = record { number = message.number; treated = one } in
-        let share = row_share entries shares row
-        (in_of_contains (rows entries (map treatment_of shares)) row contains) in
+        let share = row_share far entries shares row
+        (in_of_contains (rows far entries (map treatment_of shares)) row contains) in
         inr (none, ap makes_copy share.1 ∙ share_no_copy share.0)

@@ -21,12 +21,12 @@ use Rattle.salvaging.specs.Shares.{Adds, Passes, Spoils, StandsAlone, Doubts}
 use Rattle.salvaging.specs.Tallies.{good_count, looks_behind, next_behind, passed, reads_sync}
 use Rattle.salvaging.specs.TreatedCounts.{count_treated, makes_alone, makes_bad, makes_copy, makes_doubtful, makes_passed}
 use Rattle.salvaging.specs.TreatedCounts.{makes_stranger, makes_taken}
-use Rattle.salvaging.specs.Treatments.{Row, is_good_treatment, rows, treatment_of}
+use Rattle.salvaging.specs.Treatments.{Row, is_good_treatment, own_row, rows, treatment_of}
 use Rattle.salvaging.specs.declared.treatment.Treated.{Treated}
 use Rattle.salvaging.specs.declared.treatment.Treatment.{Treatment}
 use Rattle.salvaging.specs.declared.treatment.Treatment.TheVariants as treatment
 use Rattle.salvaging.specs.steps.Trails.{goods_of}
-use Rattle.salvaging.proofs.CountedRows.{NoneDoubtful, count_cons, own_row}
+use Rattle.salvaging.proofs.CountedRows.{NoneDoubtful, count_cons}
 use Rattle.salvaging.proofs.GoodsTreated.{beyond_good, goods_append}
 use Rattle.salvaging.proofs.MarksCounted.{SuitAll}
 use Rattle.salvaging.proofs.PartsTreated.{shares_many}
@@ -126,15 +126,18 @@ share_cons p share shares =
     by_test false = refl
 
 -- As many rows say it.
-pub rows_shares : (p : Treatment → Bool) (entries : List Entry) (shares : List Share) → length shares ≡ length entries
-    → count_by (λ (row : Row). p row.treated.treatment) (rows entries (map treatment_of shares)) ≡ share_count p shares
-rows_shares p [] [] long = refl
-rows_shares p [] (one ∷ shares) long = absurd (omega (arith, long))
-rows_shares p (entry ∷ entries) [] long = absurd (omega (arith, long))
-rows_shares p (entry ∷ entries) (one ∷ shares) long =
-    let rest = rows_shares p entries shares (omega (arith, long)) in
+pub rows_shares : (far : Entry → Bool) (p : Treatment → Bool) (entries : List Entry) (shares : List Share)
+    → length shares ≡ length entries
+    → count_by (λ (row : Row). p row.treated.treatment) (rows far entries (map treatment_of shares)) ≡ share_count p
+    shares
+rows_shares far p [] [] long = refl
+rows_shares far p [] (one ∷ shares) long = absurd (omega (arith, long))
+rows_shares far p (entry ∷ entries) [] long = absurd (omega (arith, long))
+rows_shares far p (entry ∷ entries) (one ∷ shares) long =
+    let rest = rows_shares far p entries shares (omega (arith, long)) in
     count_cons (λ (row : Row). p row.treated.treatment)
-    (own_row entry entries (treatment_of one) (map treatment_of shares)) (rows entries (map treatment_of shares))
+    (own_row far entry entries (treatment_of one) (map treatment_of shares))
+    (rows far entries (map treatment_of shares))
     ∙ ap (λ n. cond (p (treatment_of one)) (suc n) n) rest
     ∙ sym (count_cons (λ (share : Share). p (treatment_of share)) one shares)
 

@@ -1,11 +1,13 @@
 -- Worked examples of far numbers: messages by their numbers, in the order in which they came.
-use Rattle.std.proofs.Common.{◌≡◌, ◌⊎◌, inl, inr, ℕ, ◌*◌, ◌<◌, ◌≤◌, ◌++◌, true, false, Contains, List, []}
+use Rattle.std.proofs.Common.{◌≡◌, ◌⊎◌, inl, inr, ℕ, ◌*◌, ◌<◌, ◌≤◌, ◌++◌, Bool, true, false, Contains, List, []}
 use Rattle.std.proofs.Common.{◌∷◌, map, refl, sym, ap, subst, ◌∙◌, append_assoc, arith}
 use Rattle.std.specs.Prelude.{nat_le}
 use Rattle.std.proofs.lemmas.Bool.{cases_lt, leb-true}
 use Rattle.std.proofs.lemmas.List.{append-nil}
 use Rattle.salvaging.specs.Entries.{Entry, Used}
-use Rattle.salvaging.specs.Far.{AreFar, ahead, has_neighbour}
+use Rattle.salvaging.specs.Far.{AreFar, ahead, believed, has_neighbour}
+use Rattle.salvaging.specs.FarGaps.{reported_gaps}
+use Rattle.salvaging.specs.Late.{late}
 use Rattle.salvaging.specs.steps.Farness.{IsGreatestUpTo, IsNearest, Reaches, greater_of, is_above}
 use Rattle.salvaging.proofs.BoundSteps.{none_yet, one_more}
 use Rattle.salvaging.proofs.FarByBound.{all_of, far_by_bound, one_of}
@@ -101,30 +103,55 @@ row entries steps bound reached least over = far_by_bound entries (nearest entri
 abbrev at : ℕ → ℕ → Entry
 at number place = Used number place []
 
+-- Where these entries are good and far as this says, these gaps are reported, and so many messages are late.
+abbrev Leave : List Entry → List Bool → List ℕ → ℕ → Type 0
+Leave entries flags gaps count =
+    (reported_gaps 0 entries flags ≡ gaps) × (late entries (believed (map (λ entry. true) entries) flags) ≡ count)
+
 -- 0 1 2 900 4 5 6: 900 is far.
 one_far : AreFar (at 0 0 ∷ at 1 1 ∷ at 2 2 ∷ at 4 4 ∷ at 5 5 ∷ at 6 6 ∷ at 900 3 ∷ [])
     (false ∷ false ∷ false ∷ false ∷ false ∷ false ∷ true ∷ [])
 one_far = row (at 0 0 ∷ at 1 1 ∷ at 2 2 ∷ at 4 4 ∷ at 5 5 ∷ at 6 6 ∷ at 900 3 ∷ []) [] 0 refl refl refl
+
+one_far_left : Leave (at 0 0 ∷ at 1 1 ∷ at 2 2 ∷ at 4 4 ∷ at 5 5 ∷ at 6 6 ∷ at 900 3 ∷ [])
+    (false ∷ false ∷ false ∷ false ∷ false ∷ false ∷ true ∷ []) (1 ∷ 0 ∷ []) 0
+one_far_left = (refl, refl)
 
 -- 0 1 2 3 4 5 900: none is far.
 last_one : AreFar (at 0 0 ∷ at 1 1 ∷ at 2 2 ∷ at 3 3 ∷ at 4 4 ∷ at 5 5 ∷ at 900 6 ∷ [])
     (false ∷ false ∷ false ∷ false ∷ false ∷ false ∷ false ∷ [])
 last_one = row (at 0 0 ∷ at 1 1 ∷ at 2 2 ∷ at 3 3 ∷ at 4 4 ∷ at 5 5 ∷ at 900 6 ∷ []) [] 0 refl refl refl
 
+last_one_left : Leave (at 0 0 ∷ at 1 1 ∷ at 2 2 ∷ at 3 3 ∷ at 4 4 ∷ at 5 5 ∷ at 900 6 ∷ [])
+    (false ∷ false ∷ false ∷ false ∷ false ∷ false ∷ false ∷ []) (894 ∷ []) 0
+last_one_left = (refl, refl)
+
 -- 0 1 900 3 800 5 6: 800 and 900 are far.
 two_far : AreFar (at 0 0 ∷ at 1 1 ∷ at 3 3 ∷ at 5 5 ∷ at 6 6 ∷ at 800 4 ∷ at 900 2 ∷ [])
     (false ∷ false ∷ false ∷ false ∷ false ∷ true ∷ true ∷ [])
 two_far = row (at 0 0 ∷ at 1 1 ∷ at 3 3 ∷ at 5 5 ∷ at 6 6 ∷ at 800 4 ∷ at 900 2 ∷ []) [] 0 refl refl refl
+
+two_far_left : Leave (at 0 0 ∷ at 1 1 ∷ at 3 3 ∷ at 5 5 ∷ at 6 6 ∷ at 800 4 ∷ at 900 2 ∷ [])
+    (false ∷ false ∷ false ∷ false ∷ false ∷ true ∷ true ∷ []) (1 ∷ 1 ∷ 0 ∷ 0 ∷ []) 0
+two_far_left = (refl, refl)
 
 -- 0 1 900 3 901 5 6: none is far, since each of the two has a neighbour.
 two_beside : AreFar (at 0 0 ∷ at 1 1 ∷ at 3 3 ∷ at 5 5 ∷ at 6 6 ∷ at 900 2 ∷ at 901 4 ∷ [])
     (false ∷ false ∷ false ∷ false ∷ false ∷ false ∷ false ∷ [])
 two_beside = row (at 0 0 ∷ at 1 1 ∷ at 3 3 ∷ at 5 5 ∷ at 6 6 ∷ at 900 2 ∷ at 901 4 ∷ []) [] 3 refl refl refl
 
+two_beside_left : Leave (at 0 0 ∷ at 1 1 ∷ at 3 3 ∷ at 5 5 ∷ at 6 6 ∷ at 900 2 ∷ at 901 4 ∷ [])
+    (false ∷ false ∷ false ∷ false ∷ false ∷ false ∷ false ∷ []) (1 ∷ 1 ∷ 893 ∷ []) 3
+two_beside_left = (refl, refl)
+
 -- 0 4 1 2 3 5 6: none is far.
 early_beside : AreFar (at 0 0 ∷ at 1 2 ∷ at 2 3 ∷ at 3 4 ∷ at 4 1 ∷ at 5 5 ∷ at 6 6 ∷ [])
     (false ∷ false ∷ false ∷ false ∷ false ∷ false ∷ false ∷ [])
 early_beside = row (at 0 0 ∷ at 1 2 ∷ at 2 3 ∷ at 3 4 ∷ at 4 1 ∷ at 5 5 ∷ at 6 6 ∷ []) [] 3 refl refl refl
+
+early_beside_left : Leave (at 0 0 ∷ at 1 2 ∷ at 2 3 ∷ at 3 4 ∷ at 4 1 ∷ at 5 5 ∷ at 6 6 ∷ [])
+    (false ∷ false ∷ false ∷ false ∷ false ∷ false ∷ false ∷ []) [] 3
+early_beside_left = (refl, refl)
 
 -- 0 1 6 2 3 4 8 9: 6 is far.
 early_alone : AreFar (at 0 0 ∷ at 1 1 ∷ at 2 3 ∷ at 3 4 ∷ at 4 5 ∷ at 6 2 ∷ at 8 6 ∷ at 9 7 ∷ [])
@@ -132,11 +159,19 @@ early_alone : AreFar (at 0 0 ∷ at 1 1 ∷ at 2 3 ∷ at 3 4 ∷ at 4 5 ∷ at 
 early_alone =
     row (at 0 0 ∷ at 1 1 ∷ at 2 3 ∷ at 3 4 ∷ at 4 5 ∷ at 6 2 ∷ at 8 6 ∷ at 9 7 ∷ []) [] 0 refl refl refl
 
+early_alone_left : Leave (at 0 0 ∷ at 1 1 ∷ at 2 3 ∷ at 3 4 ∷ at 4 5 ∷ at 6 2 ∷ at 8 6 ∷ at 9 7 ∷ [])
+    (false ∷ false ∷ false ∷ false ∷ false ∷ true ∷ false ∷ false ∷ []) (0 ∷ 3 ∷ []) 0
+early_alone_left = (refl, refl)
+
 -- 0 2 1 4 3 9 5 6 7: 9 is far, beyond the hart's own reordering.
 reordered_far : AreFar (at 0 0 ∷ at 1 2 ∷ at 2 1 ∷ at 3 4 ∷ at 4 3 ∷ at 5 6 ∷ at 6 7 ∷ at 7 8 ∷ at 9 5 ∷ [])
     (false ∷ false ∷ false ∷ false ∷ false ∷ false ∷ false ∷ false ∷ true ∷ [])
 reordered_far =
     row (at 0 0 ∷ at 1 2 ∷ at 2 1 ∷ at 3 4 ∷ at 4 3 ∷ at 5 6 ∷ at 6 7 ∷ at 7 8 ∷ at 9 5 ∷ []) [] 1 refl refl refl
+
+reordered_far_left : Leave (at 0 0 ∷ at 1 2 ∷ at 2 1 ∷ at 3 4 ∷ at 4 3 ∷ at 5 6 ∷ at 6 7 ∷ at 7 8 ∷ at 9 5 ∷ [])
+    (false ∷ false ∷ false ∷ false ∷ false ∷ false ∷ false ∷ false ∷ true ∷ []) (0 ∷ []) 2
+reordered_far_left = (refl, refl)
 
 -- 0 2 1 4 3 9 6 5: none is far, since 9 is ahead of no more than twice as many as others are.
 reordered : AreFar (at 0 0 ∷ at 1 2 ∷ at 2 1 ∷ at 3 4 ∷ at 4 3 ∷ at 5 7 ∷ at 6 6 ∷ at 9 5 ∷ [])
@@ -148,8 +183,16 @@ reordered =
       refl,
     ) refl refl
 
+reordered_left : Leave (at 0 0 ∷ at 1 2 ∷ at 2 1 ∷ at 3 4 ∷ at 4 3 ∷ at 5 7 ∷ at 6 6 ∷ at 9 5 ∷ [])
+    (false ∷ false ∷ false ∷ false ∷ false ∷ false ∷ false ∷ false ∷ []) (2 ∷ []) 4
+reordered_left = (refl, refl)
+
 -- 0 1 2 60 4 5 100 101 60: 60 is far, and its second message is a copy.
 far_twice : AreFar (at 0 0 ∷ at 1 1 ∷ at 2 2 ∷ at 4 4 ∷ at 5 5 ∷ at 60 3 ∷ at 100 6 ∷ at 101 7 ∷ [])
     (false ∷ false ∷ false ∷ false ∷ false ∷ true ∷ false ∷ false ∷ [])
 far_twice =
     row (at 0 0 ∷ at 1 1 ∷ at 2 2 ∷ at 4 4 ∷ at 5 5 ∷ at 60 3 ∷ at 100 6 ∷ at 101 7 ∷ []) [] 0 refl refl refl
+
+far_twice_left : Leave (at 0 0 ∷ at 1 1 ∷ at 2 2 ∷ at 4 4 ∷ at 5 5 ∷ at 60 3 ∷ at 100 6 ∷ at 101 7 ∷ [])
+    (false ∷ false ∷ false ∷ false ∷ false ∷ true ∷ false ∷ false ∷ []) (1 ∷ 0 ∷ 94 ∷ []) 0
+far_twice_left = (refl, refl)

@@ -33,5 +33,7 @@ pub record AreAlikeHarts {A B : Type 0} (one : SalvagedHart A) (other : Salvaged
   pub parts : AreAlikeParts (parts_in one.parts.items) (parts_in other.parts.items)
   pub copies : one.copies ≡ other.copies
   pub late : one.late ≡ other.late
+  pub gaps : one.gaps.items ≡ other.gaps.items
+  pub far : one.far.items ≡ other.far.items
   pub closed : one.closed ≡ other.closed
   pub mode : one.mode ≡ other.mode

@@ -1,6 +1,6 @@
 -- Far numbers: those that came so early that they are not believed.
 use Rattle.std.specs.Prelude.{ℕ, ◌≡◌, ◌≤◌, ◌<◌, ◌+◌, ◌*◌, ◌==◌, ◌&&◌, ◌||◌, nat_lt, All, Bool, true, false, List, [], ◌∷◌}
-use Rattle.std.specs.Prelude.{◌⊎◌, Contains, Some, count_by, map, slice_get}
+use Rattle.std.specs.Prelude.{◌⊎◌, Contains, Some, count_by, map, not, slice_get}
 use Rattle.std.specs.List.{list_any}
 use Rattle.message.specs.declared.message.Message.{Message}
 use Rattle.salvaging.specs.Entries.{Entry, Used, Doubtful, AreEntries, entry_number, is_used}
@@ -42,6 +42,12 @@ pub record AreFar (entries : List Entry) (far : List Bool) : Type 0 where
   pub stand_far : StandFar entries among
   pub greatest : (others : Entry → Bool) → StandFar entries others
       → All (λ entry. others entry ≡ true → among entry ≡ true) entries
+
+-- Which entries are believed, by which of them are good and which are far: those that are good and not far.
+abbrev pub believed : List Bool → List Bool → List Bool
+believed [] far = []
+believed (good ∷ goods) [] = []
+believed (good ∷ goods) (flag ∷ far) = (good && not flag) ∷ believed goods far
 
 -- The numbers of those entries of which this is true.
 abbrev pub numbers_of : List Entry → List Bool → List ℕ

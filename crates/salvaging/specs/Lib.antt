@@ -14,6 +14,7 @@ pub mod Tallies
 pub mod Shares
 pub mod Treatments
 pub mod PartsIn
+pub mod FarGaps
 pub mod Salvaged
 pub mod FromLogs
 pub mod LogsSalvaged

@@ -1,5 +1,6 @@
 -- What is done with each message of a hart.
-use Rattle.std.specs.Prelude.{ℕ, ◌≡◌, ◌⊎◌, ◌<◌, Bool, true, false, Contains, List, [], ◌∷◌, Some, length, map, slice_get, take}
+use Rattle.std.specs.Prelude.{ℕ, ◌≡◌, ◌⊎◌, ◌<◌, ◌&&◌, not, Bool, true, false, Contains, List, [], ◌∷◌, Some, length}
+use Rattle.std.specs.Prelude.{map, slice_get, take}
 use Rattle.retire.specs.Events.{place}
 use Rattle.retire.specs.declared.event.Event.{Event}
 use Rattle.rvclass.specs.Words.{Words}
@@ -9,6 +10,7 @@ use Rattle.message.specs.declared.message.Message.{Message}
 use Rattle.salvaging.specs.Copies.{HasLike}
 use Rattle.salvaging.specs.Ends.{AreCutAtEnd}
 use Rattle.salvaging.specs.Entries.{Entry, Used, Doubtful, AreEntries, entry_number}
+use Rattle.salvaging.specs.Far.{AreFar, believed}
 use Rattle.salvaging.specs.Late.{is_late}
 use Rattle.salvaging.specs.Leaving.{own_mode}
 use Rattle.salvaging.specs.Shares.{Share, Adds, Passes, Spoils, StandsAlone, Doubts, HartShares}
@@ -32,11 +34,16 @@ treatment_of (Spoils why) = treatment.Bad why
 treatment_of StandsAlone = treatment.Alone
 treatment_of Doubts = treatment.Doubtful
 
--- The message of an entry is late: it is used, and of these entries, whose numbers are greater, a good one came before
--- it.
-abbrev pub is_late_entry : Entry → List Entry → List Bool → Bool
-is_late_entry (Used number place payload) entries goods = is_late place entries goods
-is_late_entry (Doubtful number first second) entries goods = false
+-- The message of an entry is late: it is used and believed, and of these entries, whose numbers are greater, a believed
+-- one came before it.
+abbrev pub is_late_entry : Entry → Bool → List Entry → List Bool → Bool
+is_late_entry (Used number place payload) one entries believed = one && is_late place entries believed
+is_late_entry (Doubtful number first second) one entries believed = false
+
+-- The entry is used and its message good, and its number is far.
+abbrev pub is_far_entry : Entry → Bool → Bool → Bool
+is_far_entry (Used number place payload) good far = good && far
+is_far_entry (Doubtful number first second) good far = false
 
 -- A number of a hart, and what is done with the first of its messages of each payload.
 pub record Row : Type 0 where
@@ -44,9 +51,9 @@ pub record Row : Type 0 where
   pub treated : Treated
 
 -- The row of a number.
-abbrev pub row_of : ℕ → Treatment → Bool → Row
-row_of number treatment late =
-    record { number = number; treated = record { treatment = treatment; late = late } }
+abbrev pub row_of : ℕ → Treatment → Bool → Bool → Row
+row_of number treatment far late =
+    record { number = number; treated = record { treatment = treatment; far = far; late = late } }
 
 -- The message is good of which this is done: it is used, and neither bad nor alone.
 abbrev pub is_good_treatment : Treatment → Bool
@@ -54,17 +61,22 @@ is_good_treatment treatment.Passed = true
 is_good_treatment (treatment.Taken added) = true
 is_good_treatment other = false
 
--- The rows of entries with these treatments.
-abbrev pub rows : List Entry → List Treatment → List Row
-rows [] treatments = []
-rows (entry ∷ entries) [] = []
-rows (entry ∷ entries) (one ∷ treatments) =
-    row_of (entry_number entry) one (is_late_entry entry entries (map is_good_treatment treatments))
-    ∷ rows entries treatments
+-- The row of an entry with this treatment, before others with theirs, by which of them are far.
+abbrev pub own_row : (Entry → Bool) → Entry → List Entry → Treatment → List Treatment → Row
+own_row far entry entries one treatments =
+    row_of (entry_number entry) one (is_far_entry entry (is_good_treatment one) (far entry))
+    (is_late_entry entry (is_good_treatment one && not (far entry)) entries
+    (believed (map is_good_treatment treatments) (map far entries)))
+
+-- The rows of entries with these treatments, by which of them are far.
+abbrev pub rows : (Entry → Bool) → List Entry → List Treatment → List Row
+rows far [] treatments = []
+rows far (entry ∷ entries) [] = []
+rows far (entry ∷ entries) (one ∷ treatments) = own_row far entry entries one treatments ∷ rows far entries treatments
 
 -- A copy is passed over.
 abbrev pub copy : Treated
-copy = record { treatment = treatment.Copy; late = false }
+copy = record { treatment = treatment.Copy; far = false; late = false }
 
 -- What is done with the message at this place among its hart's messages: it is a copy, if an earlier message is like it,
 -- and else it has what the row of its number says.
@@ -74,7 +86,7 @@ IsTreated messages rows place message treated =
     ⊎ ((¬ HasLike (take place messages) message)
     × Contains rows (record { number = message.number; treated = treated }))
 
--- What the entries of a hart with these messages do, where this mode is handed in.
+-- What the entries of a hart with these messages do, where this mode is handed in, and which of them are far.
 pub record HartTreats (words : Words) (mode : Mode) (messages : List Message) : Type 0 where
   pub entries : List Entry
   pub upto : List Entry
@@ -83,15 +95,17 @@ pub record HartTreats (words : Words) (mode : Mode) (messages : List Message) : 
   pub are_entries : AreEntries messages entries
   pub cut : AreCutAtEnd words (own_mode mode entries) entries upto beyond
   pub are_shares : HartShares words (own_mode mode entries) upto beyond shares
+  pub far : List Bool
+  pub are_far : AreFar entries far
 
 -- The rows of a hart.
 abbrev pub hart_rows : {words : Words} {mode : Mode} {messages : List Message} → HartTreats words mode messages
     → List Row
-hart_rows treats = rows treats.entries (map treatment_of treats.shares)
+hart_rows treats = rows treats.are_far.among treats.entries (map treatment_of treats.shares)
 
 -- No hart has a use of a stranger.
 abbrev pub stranger : Treated
-stranger = record { treatment = treatment.Stranger; late = false }
+stranger = record { treatment = treatment.Stranger; far = false; late = false }
 
 -- The place of a message among those of its hart: how many of them came before it.
 abbrev pub own_place : List Message → ℕ → Message → ℕ

@@ -4,9 +4,10 @@ ghost use Rattle.std.specs.Prelude.{◌≡◌, IfOk, List};
 ghost use Rattle.rvclass.specs.Fetch.{words_of};
 ghost use Rattle.message.specs.declared.message.Message.{Message as AnyMessage};
 ghost use Rattle.salvaging.specs.Salvaged.{IsSalvagedHart};
-ghost use Rattle.salvaging.specs.steps.Arrivals.{HaveNumbers, arrivals_in, placed_from};
+ghost use Rattle.salvaging.specs.steps.Arrivals.{HaveNumbers, HavePlaces, arrivals_in, placed_from};
 
 use crate::copies::copies;
+use crate::gaps::{far_among, reported_gaps};
 use crate::late::late;
 use crate::mark::Verdict;
 use crate::received::ReceivedMessage;
@@ -30,6 +31,7 @@ pub(crate) fn salvage_hart<A: Allocator + Copy, V: ProgressSink>(
 ) -> Result<SalvagedHart<A>, AllocError>
     requires lines { lines.old.program.now ≡ program.now }
     requires numbers { HaveNumbers (arrivals_in came.items) }
+    requires places { HavePlaces (arrivals_in came.items) }
     ensures salvaged { (messages : List AnyMessage) → arrivals_in came.entry.items ≡ placed_from 0 messages
         → IfOk result (IsSalvagedHart (words_of program.now) mode messages) }
     ensures lines { lines.new.program ≡ lines.old.program }
@@ -37,13 +39,19 @@ pub(crate) fn salvage_hart<A: Allocator + Copy, V: ProgressSink>(
     let worked = work_out::<A, V, Verdict>(alloc, program, lines, mode, came, watch)?;
     let ordered = worked.came.as_slice();
     let verdicts = worked.marks.as_slice();
+    let flags = worked.far.as_slice();
+    let upto = &ordered[..worked.end];
+    let gaps = reported_gaps(alloc, upto, flags)?;
+    let far = far_among(alloc, upto, verdicts, flags)?;
     let copies = copies(ordered);
-    let late = late(ordered, verdicts);
+    let late = late(ordered, verdicts, flags);
     let tally = tally(verdicts);
     let doubtful = ordered.len() - copies - tally.used;
     Ok(SalvagedHart {
         parts: worked.parts,
         copies,
+        gaps,
+        far,
         late,
         decoded: tally.decoded,
         passed: tally.passed,

@@ -1,6 +1,7 @@
 //! What the definitions of salvaging promise.
 
-ghost use Rattle.std.specs.Prelude.{ℕ, ◌≡◌, ◌≢◌, ◌↔◌, ◌++◌, [], ◌∷◌, true, Bool, List, None, length, map};
+ghost use Rattle.std.specs.Prelude.{ℕ, ◌≡◌, ◌≢◌, ◌↔◌, ◌≤◌, ◌+◌, ◌++◌, ◌==◌, [], ◌∷◌, true, All, Bool, List, None, count_by};
+ghost use Rattle.std.specs.Prelude.{length, map, sum};
 ghost use Rattle.rvclass.specs.Fetch.{words_of};
 ghost use Rattle.rvclass.specs.Image.{Image};
 ghost use Rattle.rvclass.specs.Words.{Words, IsProgram};
@@ -19,8 +20,9 @@ ghost use Rattle.salvaging.specs.CountedOnce.{AreCountedOnce};
 ghost use Rattle.salvaging.specs.Ends.{AreCutAtEnd};
 ghost use Rattle.salvaging.specs.EndsByNumbers.{AreCutByNumber};
 ghost use Rattle.salvaging.specs.EndsByParts.{MayEndByParts};
-ghost use Rattle.salvaging.specs.Entries.{Entry as AnyEntry, Used, entry_number, next_used};
+ghost use Rattle.salvaging.specs.Entries.{Entry as AnyEntry, Used, entry_number, is_used, next_used};
 ghost use Rattle.salvaging.specs.Far.{AreFarNumbers, ComeInOrder, HaveNeighbours};
+ghost use Rattle.salvaging.specs.FarGaps.{believed_numbers, far_passed, far_taken, missing_in, number_after};
 ghost use Rattle.salvaging.specs.FromLogs.{AreFromLogs};
 ghost use Rattle.salvaging.specs.Leaving.{EntriesLeave};
 ghost use Rattle.salvaging.specs.LeftParts.{LeftPart};
@@ -49,7 +51,7 @@ pub fn logs_are_salvaged<A: Allocator>()
 {}
 
 /// Where messages are collected without a fault (`losses::collect_lossy`), the same is salvaged of them: of each hart
-/// the same parts, none of them bad or doubtful, and the same flag. No message is a copy, late or a stranger.
+/// the same parts, none of them bad or doubtful, and the same flag. No message is a copy, far, late or a stranger.
 pub fn what_is_collected_is_salvaged<A: Allocator, B: Allocator>()
     ensures { (words : Words) (mode : Mode) (harts : ℕ) (messages : List Message) (pieces : List (AnyPieces A))
         (salvaged : AnySalvaged B) → IsProgram words → AreAcceptedLossy (newcomers harts) messages
@@ -118,4 +120,28 @@ pub fn far_numbers_are_known()
         → AreFarNumbers messages numbers → numbers ≡ [] }
     ensures beside { (messages : List Message) (numbers : List ℕ) → HaveNeighbours messages
         → AreFarNumbers messages numbers → numbers ≡ [] }
+{}
+
+/// Far numbers in what is salvaged of a hart. Those whose messages are decoded are among its decoded ones, and those whose
+/// messages are passed over among those. One gap is reported for each that there is, and one of them is 0 for each far
+/// number. Where no number is far, each gap is reported as it is. Where all numbers are used, and none is beyond the
+/// hart's end, the reported gaps and the believed numbers, those that are not far, add up to the greatest believed number
+/// plus 1.
+pub fn far_numbers_are_reported<A: Allocator>()
+    ensures taken { (words : Words) (mode : Mode) (messages : List Message) (hart : AnyHart A)
+        → IsSalvagedHart words mode messages hart → far_taken hart.far.items ≤ hart.decoded }
+    ensures passed { (words : Words) (mode : Mode) (messages : List Message) (hart : AnyHart A)
+        → IsSalvagedHart words mode messages hart → far_passed hart.far.items ≤ hart.passed }
+    ensures many { (words : Words) (mode : Mode) (messages : List Message) (hart : AnyHart A)
+        → IsSalvagedHart words mode messages hart
+        → (length hart.gaps.items ≡ length (missing_in (parts_in hart.parts.items)))
+        × (length hart.far.items ≡ count_by (λ missing. missing == 0) hart.gaps.items) }
+    ensures none { (words : Words) (mode : Mode) (messages : List Message) (hart : AnyHart A)
+        → IsSalvagedHart words mode messages hart → AreFarNumbers messages []
+        → (hart.gaps.items ≡ missing_in (parts_in hart.parts.items)) × (hart.far.items ≡ []) }
+    ensures gaps { (words : Words) (mode : Mode) (messages : List Message) (hart : AnyHart A)
+        → (salvaged : IsSalvagedHart words mode messages hart)
+        → All (λ (entry : AnyEntry). is_used entry ≡ true) salvaged.entries → salvaged.beyond ≡ []
+        → sum hart.gaps.items + length (believed_numbers salvaged.entries salvaged.flags)
+        ≡ number_after 0 (believed_numbers salvaged.entries salvaged.flags) }
 {}

@@ -18,6 +18,8 @@ mod distributing;
 mod ending;
 mod entry;
 mod far;
+mod far_number;
+mod gaps;
 mod grouping;
 mod hart;
 mod late;
@@ -40,10 +42,12 @@ mod used;
 mod working;
 
 pub use far::far_numbers;
+pub use far_number::{FarNumber, FarTreatment};
 pub use laws::{
-    far_numbers_are_known, harts_are_salvaged_in_one_way, harts_end_at_their_lowest_number,
-    harts_end_where_no_stretch_comes_after, logs_are_salvaged, messages_are_counted_once,
-    parts_are_what_is_done, treatments_are_counted, what_is_collected_is_salvaged,
+    far_numbers_are_known, far_numbers_are_reported, harts_are_salvaged_in_one_way,
+    harts_end_at_their_lowest_number, harts_end_where_no_stretch_comes_after, logs_are_salvaged,
+    messages_are_counted_once, parts_are_what_is_done, treatments_are_counted,
+    what_is_collected_is_salvaged,
 };
 pub use part::Part;
 pub use reason::Reason;

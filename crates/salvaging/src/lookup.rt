@@ -74,6 +74,7 @@ fn copy() -> Treated
 {
     Treated {
         treatment: Treatment::Copy,
+        far: false,
         late: false,
     }
 }

@@ -1,15 +1,15 @@
 //! What is done with the messages of each number of a hart.
 
-ghost use Rattle.std.specs.Prelude.{◌≡◌, IfOk, length};
-ghost use Rattle.salvaging.specs.Entries.{entry_number};
-ghost use Rattle.salvaging.specs.Treatments.{is_good_treatment, row_of, rows};
+ghost use Rattle.std.specs.Prelude.{◌≡◌, Bool, IfOk, length, map};
+ghost use Rattle.salvaging.specs.Entries.{Entry as AnyEntry, entry_number};
+ghost use Rattle.salvaging.specs.Treatments.{is_far_entry, is_good_treatment, row_of, rows};
 ghost use Rattle.salvaging.specs.steps.Arrivals.{arrivals_in};
 ghost use Rattle.salvaging.specs.steps.Grouping.{entries_by, entry_of};
 ghost use Rattle.salvaging.specs.steps.Rows.{AreRowsBack, row_by};
 
 use crate::entry::Entry;
 use crate::grouping::last_entry;
-use crate::late::{earliest_with, is_late_behind};
+use crate::late::{earliest_with, is_believed, is_late_behind};
 use crate::received::ReceivedMessage;
 use crate::treatment::{Treated, Treatment};
 use std::alloc::{AllocError, Allocator};
@@ -31,13 +31,27 @@ pub(crate) fn number_of(entry: Entry<'_>) -> u64
     }
 }
 
+/// Whether an entry is used and its message good, and its number is far.
+fn is_far(entry: Entry<'_>, good: bool, far: bool) -> bool
+    ensures { result ≡ is_far_entry (entry_of entry.entry) good far }
+{
+    match entry {
+        Entry::Used { .. } => good && far,
+        Entry::Doubtful { .. } => false,
+    }
+}
+
 /// The row of an entry.
-fn row_with(entry: Entry<'_>, treatment: Treatment, late: bool) -> NumberRow
-    ensures { row_by result ≡ row_of (entry_number (entry_of entry.entry)) treatment late }
+fn row_with(entry: Entry<'_>, treatment: Treatment, far: bool, late: bool) -> NumberRow
+    ensures { row_by result ≡ row_of (entry_number (entry_of entry.entry)) treatment far late }
 {
     NumberRow {
         number: number_of(entry),
-        treated: Treated { treatment, late },
+        treated: Treated {
+            treatment,
+            far,
+            late,
+        },
     }
 }
 
@@ -48,15 +62,18 @@ fn is_good(treatment: Treatment) -> bool
     matches!(treatment, Treatment::Passed | Treatment::Taken(_))
 }
 
-/// The rows of a hart's numbers, from the greatest on, by what its entries do. The messages are in the order of their
-/// numbers.
+/// The rows of a hart's numbers, from the greatest on, by what its entries do and which of them are far. The messages are
+/// in the order of their numbers.
 pub(crate) fn rows_back<A: Allocator + Copy>(
     alloc: A,
     came: &[ReceivedMessage<'_>],
     treatments: &[Treatment],
+    far: &[bool],
 ) -> Result<Vec<NumberRow, A>, AllocError>
-    requires { length treatments.now ≡ length (entries_by (arrivals_in came.now)) }
-    ensures { IfOk result (λ found. AreRowsBack (rows (entries_by (arrivals_in came.now)) treatments.now) found.items) }
+    requires treatments { length treatments.now ≡ length (entries_by (arrivals_in came.now)) }
+    requires far { length far.now ≡ length treatments.now }
+    ensures { (among : AnyEntry → Bool) → far.now ≡ map among (entries_by (arrivals_in came.now))
+        → IfOk result (λ found. AreRowsBack (rows among (entries_by (arrivals_in came.now)) treatments.now) found.items) }
 {
     let mut found = Vec::new(alloc);
     let mut first = None;
@@ -65,10 +82,12 @@ pub(crate) fn rows_back<A: Allocator + Copy>(
     while let Some((entry, front)) = last_entry(rest) {
         at -= 1;
         let treatment = treatments[at];
-        let late = is_late_behind(entry, first);
+        let good = is_good(treatment);
+        let believed = is_believed(good, far[at]);
+        let late = is_late_behind(entry, believed, first);
         found.reserve(1)?;
-        found.push_reserved(row_with(entry, treatment, late));
-        first = earliest_with(entry, is_good(treatment), first);
+        found.push_reserved(row_with(entry, treatment, is_far(entry, good, far[at]), late));
+        first = earliest_with(entry, believed, first);
         rest = &rest[..front];
     }
     Ok(found)

@@ -1,5 +1,6 @@
 //! What is salvaged of messages.
 
+use crate::far_number::FarNumber;
 use crate::part::Part;
 use payload::Mode;
 use std::alloc::{Allocator, Global};
@@ -11,8 +12,13 @@ pub struct SalvagedHart<A: Allocator = Global> {
     pub parts: Vec<Part<A>, A>,
     /// How many messages are copies: an earlier message of the hart has the same number and the same payload.
     pub copies: usize,
-    /// How many messages are late: they are used, and an earlier used message that is neither bad nor alone has a greater
-    /// number.
+    /// How many numbers each gap among the parts is reported to miss, in their order, as if no far number had come; 0 where
+    /// the number after the gap is far, and no gap is reported.
+    pub gaps: Vec<u64, A>,
+    /// The far numbers up to the hart's end, in rising order: one for each 0 among the gaps.
+    pub far: Vec<FarNumber, A>,
+    /// How many messages are late: they are used, and neither bad, alone nor far, and an earlier message of which this is
+    /// true has a greater number.
     pub late: usize,
     /// How many messages are decoded: they are used, neither bad nor alone, and of a stretch.
     pub decoded: usize,

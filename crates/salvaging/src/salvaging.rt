@@ -10,7 +10,7 @@ ghost use Rattle.salvaging.specs.FromLogs.{AreFromLogs};
 ghost use Rattle.salvaging.specs.LogsSalvaged.{AreLogsSalvaged};
 ghost use Rattle.salvaging.specs.LossyParts.{AreCollectedToo};
 ghost use Rattle.salvaging.specs.Salvaged.{IsSalvaged};
-ghost use Rattle.salvaging.specs.steps.Arrivals.{HaveNumbers, arrivals_in};
+ghost use Rattle.salvaging.specs.steps.Arrivals.{HaveNumbers, HavePlaces, arrivals_in};
 ghost use Rattle.salvaging.specs.steps.Distributing.{AreSalvagedOf};
 
 use crate::distributing::{distribute, strangers};
@@ -33,7 +33,8 @@ fn salvage_each<A: Allocator + Copy, V: ProgressSink>(
     lists: &mut Vec<Vec<ReceivedMessage<'_>, A>, A>,
     watch: &V,
 ) -> Result<Vec<SalvagedHart<A>, A>, AllocError>
-    requires { All (λ list. HaveNumbers (arrivals_in list.items)) lists.old.items }
+    requires numbers { All (λ list. HaveNumbers (arrivals_in list.items)) lists.old.items }
+    requires places { All (λ list. HavePlaces (arrivals_in list.items)) lists.old.items }
     ensures { IfOk result (λ harts. AreSalvagedOf (words_of program.now) mode lists.old.items harts.items) }
 {
     let mut lines = StraightRuns::new(alloc, program);
@@ -74,7 +75,7 @@ pub fn salvage<A: Allocator + Copy>(
         → IfOk result (λ salvaged. AreLogsSalvaged program.now period own logs messages.now salvaged) }
 
     // Of messages of which `losses::collect_lossy` returns pieces, with as many harts and the same mode: the same
-    // parts, none of them bad or doubtful, and the same flags. No message is a copy, late or a stranger.
+    // parts, none of them bad or doubtful, and the same flags. No message is a copy, far, late or a stranger.
     ensures collected { (pieces : List (AnyPieces A)) → GivesPieces program.now harts mode messages.now pieces
         → IfOk result (AreCollectedToo pieces) }
 
@@ -100,7 +101,7 @@ pub fn salvage_watched<A: Allocator + Copy, V: ProgressSink>(
         → IfOk result (λ salvaged. AreLogsSalvaged program.now period own logs messages.now salvaged) }
 
     // Of messages of which `losses::collect_lossy` returns pieces, with as many harts and the same mode: the same
-    // parts, none of them bad or doubtful, and the same flags. No message is a copy, late or a stranger.
+    // parts, none of them bad or doubtful, and the same flags. No message is a copy, far, late or a stranger.
     ensures collected { (pieces : List (AnyPieces A)) → GivesPieces program.now harts mode messages.now pieces
         → IfOk result (AreCollectedToo pieces) }
 

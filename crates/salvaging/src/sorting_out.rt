@@ -3,7 +3,7 @@
 ghost use Rattle.std.specs.Prelude.{◌≡◌, IfOk, List};
 ghost use Rattle.rvclass.specs.Fetch.{words_of};
 ghost use Rattle.message.specs.declared.message.Message.{Message as AnyMessage};
-ghost use Rattle.salvaging.specs.steps.Arrivals.{HaveNumbers, arrivals_in, placed_from};
+ghost use Rattle.salvaging.specs.steps.Arrivals.{HaveNumbers, HavePlaces, arrivals_in, placed_from};
 ghost use Rattle.salvaging.specs.steps.SortedOut.{IsSortedOut};
 
 use crate::received::ReceivedMessage;
@@ -34,6 +34,7 @@ pub(crate) fn sort_out<'a, A: Allocator + Copy, V: ProgressSink>(
 ) -> Result<HartRows<'a, A>, AllocError>
     requires lines { lines.old.program.now ≡ program.now }
     requires numbers { HaveNumbers (arrivals_in came.items) }
+    requires places { HavePlaces (arrivals_in came.items) }
     ensures sorted { (messages : List AnyMessage) → arrivals_in came.entry.items ≡ placed_from 0 messages
         → IfOk result (IsSortedOut (words_of program.now) mode messages) }
     ensures lines { lines.new.program ≡ lines.old.program }
@@ -41,7 +42,12 @@ pub(crate) fn sort_out<'a, A: Allocator + Copy, V: ProgressSink>(
     let mut worked = work_out::<A, V, Treatment>(alloc, program, lines, mode, came, watch)?;
     // The events are of no use here.
     worked.parts.clear();
-    let rows = rows_back(alloc, worked.came.as_slice(), worked.marks.as_slice())?;
+    let rows = rows_back(
+        alloc,
+        worked.came.as_slice(),
+        worked.marks.as_slice(),
+        worked.far.as_slice(),
+    )?;
     Ok(HartRows {
         came: worked.came,
         rows,

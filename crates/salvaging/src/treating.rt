@@ -7,7 +7,7 @@ ghost use Rattle.rvclass.specs.Words.{Words};
 ghost use Rattle.salvaging.specs.Strangers.{own_messages};
 ghost use Rattle.salvaging.specs.Treatments.{AreTreated, stranger};
 ghost use Rattle.salvaging.specs.declared.sorting_out.HartRows.{HartRows as AnyRows};
-ghost use Rattle.salvaging.specs.steps.Arrivals.{HaveNumbers, arrivals_in};
+ghost use Rattle.salvaging.specs.steps.Arrivals.{HaveNumbers, HavePlaces, arrivals_in};
 ghost use Rattle.salvaging.specs.steps.SortedOut.{AreSortedOf, IsSortedOut, TakesPlace, TreatsNext};
 
 use crate::distributing::{distribute, is_stranger, strangers};
@@ -30,7 +30,8 @@ fn sort_each<'a, A: Allocator + Copy, V: ProgressSink>(
     lists: &mut Vec<Vec<ReceivedMessage<'a>, A>, A>,
     watch: &V,
 ) -> Result<Vec<HartRows<'a, A>, A>, AllocError>
-    requires { All (λ list. HaveNumbers (arrivals_in list.items)) lists.old.items }
+    requires numbers { All (λ list. HaveNumbers (arrivals_in list.items)) lists.old.items }
+    requires places { All (λ list. HavePlaces (arrivals_in list.items)) lists.old.items }
     ensures { IfOk result (λ harts. AreSortedOf (words_of program.now) mode lists.old.items harts.items) }
 {
     let mut lines = StraightRuns::new(alloc, program);
@@ -63,6 +64,7 @@ fn stranger() -> Treated
 {
     Treated {
         treatment: Treatment::Stranger,
+        far: false,
         late: false,
     }
 }

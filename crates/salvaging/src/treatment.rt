@@ -32,13 +32,15 @@ pub enum Treatment {
     Taken(Added),
 }
 
-/// What is done with a message, and whether it came late.
+/// What is done with a message, and whether it is far or late.
 #[derive(Clone, Copy, PartialEq, Eq)]
 pub struct Treated {
     /// What is done with it.
     pub treatment: Treatment,
-    /// Whether it is late: it is used, and an earlier used message of its hart that is neither bad nor alone has a greater
-    /// number. A message is used if it is the first with its number and no other payload came with that number. So a
-    /// stranger, a copy or a message of a doubtful number is never late.
+    /// Whether it is decoded or passed over, and its number is far ([`far_numbers`](crate::far_numbers)).
+    pub far: bool,
+    /// Whether it is late: it is used, and neither bad, alone nor far, and an earlier message of its hart of which this is
+    /// true has a greater number. A message is used if it is the first with its number and no other payload came with that
+    /// number. So a stranger, a copy or a message of a doubtful number is never late.
     pub late: bool,
 }

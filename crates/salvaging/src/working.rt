@@ -2,11 +2,12 @@
 
 ghost use Rattle.rvclass.specs.Fetch.{words_of};
 ghost use Rattle.std.specs.Prelude.{◌≡◌, IfOk};
-ghost use Rattle.salvaging.specs.steps.Arrivals.{HaveNumbers, arrivals_in};
+ghost use Rattle.salvaging.specs.steps.Arrivals.{HaveNumbers, HavePlaces, arrivals_in};
 ghost use Rattle.salvaging.specs.steps.Working.{IsWorkedOut};
 
 use crate::beyond::take_beyond;
 use crate::ending::count_to_end;
+use crate::far::far_flags;
 use crate::mark::Mark;
 use crate::own_mode::own_mode;
 use crate::part::Part;
@@ -32,6 +33,10 @@ pub(crate) struct WorkedHart<'a, A: Allocator, M> {
     pub(crate) parts: Vec<Part<A>, A>,
     /// What is kept of what is done with the messages of each number, in the order of the numbers.
     pub(crate) marks: Vec<M, A>,
+    /// Whether each number is far.
+    pub(crate) far: Vec<bool, A>,
+    /// How many of its messages have a number up to its end.
+    pub(crate) end: usize,
 }
 
 /// Works through the messages of a hart, which these are in the order in which they came. They are put in the order of
@@ -46,12 +51,14 @@ pub(crate) fn work_out<'a, A: Allocator + Copy, V: ProgressSink, M: Mark>(
 ) -> Result<WorkedHart<'a, A, M>, AllocError>
     requires lines { lines.old.program.now ≡ program.now }
     requires numbers { HaveNumbers (arrivals_in came.items) }
+    requires places { HavePlaces (arrivals_in came.items) }
     ensures worked { IfOk result (λ hart. IsWorkedOut M.kept (words_of program.now) mode (arrivals_in came.entry.items)
         (arrivals_in hart.came.items) hart) }
     ensures lines { lines.new.program ≡ lines.old.program }
 {
     put_in_order(came.as_mut_slice());
     let ordered = came.as_slice();
+    let far = far_flags(alloc, ordered)?;
     let own = own_mode(mode, ordered);
     let end = count_to_end(alloc, program, own, ordered)?;
     let upto = &ordered[..end];
@@ -66,5 +73,7 @@ pub(crate) fn work_out<'a, A: Allocator + Copy, V: ProgressSink, M: Mark>(
         closed,
         parts: outcome.parts,
         marks: outcome.marks,
+        far,
+        end,
     })
 }

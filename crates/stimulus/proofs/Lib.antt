@@ -1,4 +1,5 @@
 pub mod Slots
+pub mod WalkLemmas
 pub mod RowLemmas
 pub mod TraceLemmas
 pub mod SendLemmas

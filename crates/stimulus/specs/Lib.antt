@@ -1,9 +1,10 @@
 pub mod Mix
 pub mod Slot
 pub mod ImageBytes
+pub mod Walk
 pub mod Walked
 pub mod Written
-pub mod Mixed
 pub mod Order
+pub mod Mixed
 pub mod Mixing
 pub mod steps

@@ -1,6 +1,7 @@
 -- The names of mixes, and the kinds of instructions of each.
 use Rattle.std.specs.Prelude.{◌≡◌, ◌≢◌, ℕ, List, Option, Some, None, codes}
 use Rattle.stimulus.specs.declared.mix.Bounds.{Bounds}
+use Rattle.stimulus.specs.declared.mix.Habits.{Habits}
 use Rattle.stimulus.specs.declared.mix.Mix.{Mix}
 use Rattle.stimulus.specs.declared.mix.Mix.TheVariants.{Mixed, Branches, Jumps, Traps, Longest, Straight}
 
@@ -86,3 +87,17 @@ bounds_of Jumps = only_jumps
 bounds_of Traps = all_kinds
 bounds_of Longest = all_kinds
 bounds_of Straight = only_plain
+
+-- The habits with these numbers.
+abbrev pub habits_with : ℕ → ℕ → ℕ → ℕ → Habits
+habits_with traps nested interrupts shortened =
+    record { traps = traps; nested = nested; interrupts = interrupts; shortened = shortened }
+
+-- How harts behave that run a program of this mix.
+abbrev pub habits_of : Mix → Habits
+habits_of Mixed = habits_with 512 16384 128 63
+habits_of Branches = habits_with 0 0 0 63
+habits_of Jumps = habits_with 0 0 0 63
+habits_of Traps = habits_with 21845 21845 128 63
+habits_of Longest = habits_with 49152 49152 0 7
+habits_of Straight = habits_with 16 16 128 63

@@ -1,14 +1,15 @@
 //! Writing a capture in which the messages of many harts are mixed.
 
-ghost use Rattle.std.specs.Prelude.{ℕ, ◌≡◌, ◌≤◌, ◌<◌, Err, IfErr, IfOk, List, [], OnOk, length};
+ghost use Rattle.std.specs.Prelude.{ℕ, ◌≡◌, ◌≤◌, ◌<◌, Err, IfOk, List, [], OnOk, Some, length};
 ghost use Rattle.rvclass.specs.Fetch.{words_of};
 ghost use Rattle.rvclass.specs.Image.{IsImage};
 ghost use Rattle.rvclass.specs.Words.{Words};
 ghost use Rattle.captures.specs.Versions.{MayStart};
 ghost use Rattle.message.specs.declared.message.Message.{Message as AnyMessage};
-ghost use Rattle.payload.specs.declared.mode.Mode.{Mode as AnyMode};
-ghost use Rattle.stimulus.specs.Mixed.{AppendsMixed, BeginsMixed, header_of};
-ghost use Rattle.stimulus.specs.steps.Sending.{AllBegun, AllSendMore, AreSent, IsClosed};
+ghost use Rattle.stimulus.specs.Mixed.{AppendsMixed, BeginsMixed, Plan, ending_of, first_order, header_of, plan_of};
+ghost use Rattle.stimulus.specs.Order.{drawn_of};
+ghost use Rattle.stimulus.specs.steps.Sending.{AllBegun, AllSendMore, AreSent, IsClosed, close_all, close_one, send_next};
+ghost use Rattle.stimulus.specs.steps.Sending.{take_turns};
 
 use crate::mix::Mix;
 use crate::order::{Bursts, Order};
@@ -61,10 +62,8 @@ pub fn write_capture<A: Allocator + Copy, W: Write>(
 ) -> Result<(), WriteFault>
     requires period { 1 ≤ asked.now.period }
     requires start { MayStart asked.now.version (header_of asked.now) }
-    ensures capture { OnOk result (AppendsMixed program.now asked.now.version (header_of asked.now)
-        (W.contents sink.old) (W.contents sink.new)) }
-    ensures begun { BeginsMixed program.now asked.now.version (header_of asked.now)
-        (W.contents sink.old) (W.contents sink.new) }
+    ensures capture { OnOk result (AppendsMixed program.now asked.now (W.contents sink.old) (W.contents sink.new)) }
+    ensures begun { BeginsMixed program.now asked.now (W.contents sink.old) (W.contents sink.new) }
     ensures untouched { result ≡ Err WriteFault.Memory → sink.new ≡ sink.old }
 {
     let mut senders = senders_of(alloc, program, asked)?;
@@ -76,7 +75,10 @@ pub fn write_capture<A: Allocator + Copy, W: Write>(
 }
 
 /// How the turns of a capture are drawn.
-fn bursts_of(asked: &Capture) -> Bursts {
+fn bursts_of(asked: &Capture) -> Bursts
+    ensures longest { result.longest ≡ asked.now.burst }
+    ensures ending { result.ending ≡ Some (ending_of asked.now.messages) }
+{
     let ending = (asked.messages / 16).clamp(SHORTEST_ENDING, u64::from(u32::MAX));
     Bursts {
         longest: asked.burst,
@@ -92,7 +94,7 @@ fn senders_of<A: Allocator>(
 ) -> Result<Vec<Sender, A>, AllocError>
     requires { 1 ≤ asked.now.period }
     ensures senders { (words : Words) → IfOk result (λ senders.
-        AreSent words asked.now.period asked.now.mode asked.now.harts [] senders.items) }
+        AreSent words (plan_of program.now asked.now) [] senders.items) }
     ensures image { IsImage program.now }
 {
     let extent = Extent::of(program);
@@ -113,12 +115,10 @@ fn write_messages<A: Allocator, W: Write>(
 ) -> Result<(), MessageFault>
     requires start { MayStart asked.now.version (header_of asked.now) }
     requires image { IsImage program.now }
-    requires none { AreSent (words_of program.now) asked.now.period asked.now.mode asked.now.harts []
-        senders.old.items }
-    ensures capture { OnOk result (AppendsMixed program.now asked.now.version (header_of asked.now)
-        (W.contents sink.old) (W.contents sink.new)) }
-    ensures begun { BeginsMixed program.now asked.now.version (header_of asked.now)
-        (W.contents sink.old) (W.contents sink.new) }
+    requires none { AreSent (words_of program.now) (plan_of program.now asked.now) [] senders.old.items }
+    requires first { drawn_of order.old ≡ first_order asked.now }
+    ensures capture { OnOk result (AppendsMixed program.now asked.now (W.contents sink.old) (W.contents sink.new)) }
+    ensures begun { BeginsMixed program.now asked.now (W.contents sink.old) (W.contents sink.new) }
 {
     write_start(
         sink,
@@ -131,7 +131,7 @@ fn write_messages<A: Allocator, W: Write>(
     finish_all(program, senders, sink)
 }
 
-/// Sends messages of harts as they are drawn, so many.
+/// Sends messages of harts that sent none, as they are drawn, so many.
 fn send_mixed<A: Allocator, W: Write>(
     program: &ProgramOver,
     count: u64,
@@ -139,14 +139,12 @@ fn send_mixed<A: Allocator, W: Write>(
     order: &mut Order<A>,
     sink: &mut W,
 ) -> Result<(), MessageFault>
-    ensures sent { (period : ℕ) (mode : AnyMode) (harts : ℕ) (messages : List AnyMessage)
-        → AreSent (words_of program.now) period mode harts messages senders.old.items
-        → OnOk result (AllSendMore (words_of program.now) period mode harts messages senders.new.items
-        (W.contents sink.old) (W.contents sink.new)) }
-    ensures begun { (period : ℕ) (mode : AnyMode) (harts : ℕ) (messages : List AnyMessage)
-        → AreSent (words_of program.now) period mode harts messages senders.old.items
-        → AllBegun (words_of program.now) period mode harts messages senders.new.items
-        (W.contents sink.old) (W.contents sink.new) }
+    ensures sent { (plan : Plan) → AreSent (words_of program.now) plan [] senders.old.items
+        → OnOk result (AllSendMore (words_of program.now) plan
+        (take_turns (words_of program.now) plan (drawn_of order.old) count (drawn_of order.new)) []
+        senders.old.items senders.new.items (W.contents sink.old) (W.contents sink.new)) }
+    ensures begun { (plan : Plan) → AreSent (words_of program.now) plan [] senders.old.items
+        → AllBegun (words_of program.now) plan [] senders.new.items (W.contents sink.old) (W.contents sink.new) }
 {
     for _ in 0..count {
         let turn = order.next();
@@ -163,13 +161,13 @@ fn send_one<A: Allocator, W: Write>(
     hart: u16,
     sink: &mut W,
 ) -> Result<(), MessageFault>
-    ensures sent { (period : ℕ) (mode : AnyMode) (harts : ℕ) (messages : List AnyMessage)
-        → AreSent (words_of program.now) period mode harts messages senders.old.items
-        → OnOk result (AllSendMore (words_of program.now) period mode harts messages senders.new.items
-        (W.contents sink.old) (W.contents sink.new)) }
-    ensures begun { (period : ℕ) (mode : AnyMode) (harts : ℕ) (messages : List AnyMessage)
-        → AreSent (words_of program.now) period mode harts messages senders.old.items
-        → AllBegun (words_of program.now) period mode harts messages senders.new.items
+    ensures sent { (plan : Plan) (messages : List AnyMessage)
+        → AreSent (words_of program.now) plan messages senders.old.items
+        → OnOk result (AllSendMore (words_of program.now) plan (send_next (words_of program.now) plan hart) messages
+        senders.old.items senders.new.items (W.contents sink.old) (W.contents sink.new)) }
+    ensures begun { (plan : Plan) (messages : List AnyMessage)
+        → AreSent (words_of program.now) plan messages senders.old.items
+        → AllBegun (words_of program.now) plan messages senders.new.items
         (W.contents sink.old) (W.contents sink.new) }
 {
     let place = usize::from(hart);
@@ -186,13 +184,13 @@ fn finish_one<A: Allocator, W: Write>(
     hart: Option<u16>,
     sink: &mut W,
 ) -> Result<(), MessageFault>
-    ensures sent { (period : ℕ) (mode : AnyMode) (harts : ℕ) (messages : List AnyMessage)
-        → AreSent (words_of program.now) period mode harts messages senders.old.items
-        → OnOk result (AllSendMore (words_of program.now) period mode harts messages senders.new.items
-        (W.contents sink.old) (W.contents sink.new)) }
-    ensures begun { (period : ℕ) (mode : AnyMode) (harts : ℕ) (messages : List AnyMessage)
-        → AreSent (words_of program.now) period mode harts messages senders.old.items
-        → AllBegun (words_of program.now) period mode harts messages senders.new.items
+    ensures sent { (plan : Plan) (messages : List AnyMessage)
+        → AreSent (words_of program.now) plan messages senders.old.items
+        → OnOk result (AllSendMore (words_of program.now) plan (close_one (words_of program.now) plan hart) messages
+        senders.old.items senders.new.items (W.contents sink.old) (W.contents sink.new)) }
+    ensures begun { (plan : Plan) (messages : List AnyMessage)
+        → AreSent (words_of program.now) plan messages senders.old.items
+        → AllBegun (words_of program.now) plan messages senders.new.items
         (W.contents sink.old) (W.contents sink.new) }
 {
     let Some(hart) = hart else {
@@ -213,13 +211,13 @@ fn finish_at<A: Allocator, W: Write>(
     sink: &mut W,
 ) -> Result<(), MessageFault>
     requires { place < length senders.old.items }
-    ensures sent { (period : ℕ) (mode : AnyMode) (harts : ℕ) (messages : List AnyMessage)
-        → AreSent (words_of program.now) period mode harts messages senders.old.items
-        → OnOk result (AllSendMore (words_of program.now) period mode harts messages senders.new.items
-        (W.contents sink.old) (W.contents sink.new)) }
-    ensures begun { (period : ℕ) (mode : AnyMode) (harts : ℕ) (messages : List AnyMessage)
-        → AreSent (words_of program.now) period mode harts messages senders.old.items
-        → AllBegun (words_of program.now) period mode harts messages senders.new.items
+    ensures sent { (plan : Plan) (messages : List AnyMessage)
+        → AreSent (words_of program.now) plan messages senders.old.items
+        → OnOk result (AllSendMore (words_of program.now) plan (close_one (words_of program.now) plan (Some place)) messages
+        senders.old.items senders.new.items (W.contents sink.old) (W.contents sink.new)) }
+    ensures begun { (plan : Plan) (messages : List AnyMessage)
+        → AreSent (words_of program.now) plan messages senders.old.items
+        → AllBegun (words_of program.now) plan messages senders.new.items
         (W.contents sink.old) (W.contents sink.new) }
     ensures closed { OnOk result (IsClosed place senders.new.items) }
     ensures others { (other : ℕ) → IsClosed other senders.old.items → OnOk result (IsClosed other senders.new.items) }
@@ -234,13 +232,13 @@ fn finish_all<A: Allocator, W: Write>(
     senders: &mut Vec<Sender, A>,
     sink: &mut W,
 ) -> Result<(), MessageFault>
-    ensures sent { (period : ℕ) (mode : AnyMode) (harts : ℕ) (messages : List AnyMessage)
-        → AreSent (words_of program.now) period mode harts messages senders.old.items
-        → OnOk result (AllSendMore (words_of program.now) period mode harts messages senders.new.items
-        (W.contents sink.old) (W.contents sink.new)) }
-    ensures begun { (period : ℕ) (mode : AnyMode) (harts : ℕ) (messages : List AnyMessage)
-        → AreSent (words_of program.now) period mode harts messages senders.old.items
-        → AllBegun (words_of program.now) period mode harts messages senders.new.items
+    ensures sent { (plan : Plan) (messages : List AnyMessage)
+        → AreSent (words_of program.now) plan messages senders.old.items
+        → OnOk result (AllSendMore (words_of program.now) plan (close_all (words_of program.now) plan (length senders.new.items)) messages
+        senders.old.items senders.new.items (W.contents sink.old) (W.contents sink.new)) }
+    ensures begun { (plan : Plan) (messages : List AnyMessage)
+        → AreSent (words_of program.now) plan messages senders.old.items
+        → AllBegun (words_of program.now) plan messages senders.new.items
         (W.contents sink.old) (W.contents sink.new) }
     ensures closed { (hart : ℕ) → hart < length senders.new.items
         → OnOk result (IsClosed hart senders.new.items) }

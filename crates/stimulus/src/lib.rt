@@ -1,9 +1,9 @@
 //! Stimulus: programs, logs and captures that a number gives, for a path whose owner has no core.
 //!
 //! [`image_of`] returns the image of a program that a seed draws for a [`Mix`]. A [`Hart`] runs any program, draws what
-//! the program leaves open, and gives its events one at a time; each is checked as it comes, so the log is legal.
-//! [`write_log`] writes such a log, and [`write_capture`] the messages of many harts, mixed as a path sees them. The
-//! draws are those of `docs/FORMATS.md`, so the same numbers give the same bytes. No list grows with the run.
+//! the program leaves open, and gives its events one at a time; whatever is drawn, they are a legal log. [`write_log`]
+//! writes such a log, and [`write_capture`] the messages of many harts, mixed as a path sees them. The draws are those
+//! of `docs/FORMATS.md`, so the same numbers give the same bytes. No list grows with the run.
 #![tactic(auto)]
 
 mod capturing;

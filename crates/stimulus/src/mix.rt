@@ -1,7 +1,7 @@
 //! What a program and its harts do, as numbers.
 
 ghost use Rattle.std.specs.Prelude.{◌≡◌};
-ghost use Rattle.stimulus.specs.Mix.{IsNamed, bounds_of};
+ghost use Rattle.stimulus.specs.Mix.{IsNamed, bounds_of, habits_of, habits_with};
 
 /// What the program of a stimulus does, and how the harts that run it behave.
 #[derive(Clone, Copy, Debug)]
@@ -150,14 +150,23 @@ fn all_kinds() -> Bounds
 }
 
 /// How harts behave that run a program of this mix.
-pub(crate) fn habits_of(mix: Mix) -> Habits {
-    let (traps, nested, interrupts, shortened) = match mix {
-        Mix::Mixed => (512, 16_384, 128, 63),
-        Mix::Branches | Mix::Jumps => (0, 0, 0, 63),
-        Mix::Traps => (21_845, 21_845, 128, 63),
-        Mix::Longest => (49_152, 49_152, 0, 7),
-        Mix::Straight => (16, 16, 128, 63),
-    };
+pub(crate) fn habits_of(mix: Mix) -> Habits
+    ensures { result ≡ habits_of mix }
+{
+    match mix {
+        Mix::Mixed => habits_with(512, 16_384, 128, 63),
+        Mix::Branches => habits_with(0, 0, 0, 63),
+        Mix::Jumps => habits_with(0, 0, 0, 63),
+        Mix::Traps => habits_with(21_845, 21_845, 128, 63),
+        Mix::Longest => habits_with(49_152, 49_152, 0, 7),
+        Mix::Straight => habits_with(16, 16, 128, 63),
+    }
+}
+
+/// The habits with these numbers.
+fn habits_with(traps: u32, nested: u32, interrupts: u32, shortened: u32) -> Habits
+    ensures { result ≡ habits_with traps nested interrupts shortened }
+{
     Habits {
         traps,
         nested,

@@ -1,6 +1,6 @@
 //! A hart that sends its messages.
 
-ghost use Rattle.std.specs.Prelude.{ℕ, ◌≡◌, ◌≤◌, ◌++◌, All, IfErr, List, [], ◌∷◌, OnOk, map};
+ghost use Rattle.std.specs.Prelude.{ℕ, ◌≡◌, ◌≤◌, ◌%◌, ◌++◌, All, IfErr, List, [], ◌∷◌, OnOk, map};
 ghost use Rattle.output.specs.Begun.{AppendsBeginning};
 ghost use Rattle.rvclass.specs.Fetch.{words_of};
 ghost use Rattle.rvclass.specs.Words.{Words};
@@ -9,10 +9,11 @@ ghost use Rattle.message.specs.Numbered.{messages_from};
 ghost use Rattle.message.specs.declared.message.Message.{Message as AnyMessage};
 ghost use Rattle.payload.specs.Profile.{InProfile};
 ghost use Rattle.payload.specs.Spelling.{payload_of};
-ghost use Rattle.payload.specs.declared.mode.Mode.{Mode as AnyMode};
 ghost use Rattle.payload.specs.declared.packet.Packet.{Packet as AnyPacket};
+ghost use Rattle.stimulus.specs.Mixed.{Plan};
+ghost use Rattle.stimulus.specs.Walk.{first_walk};
 ghost use Rattle.stimulus.specs.Walked.{HasWalked};
-ghost use Rattle.stimulus.specs.steps.Sending.{HasGiven, HasSent, Numbered, SendsBegun, SendsMore};
+ghost use Rattle.stimulus.specs.steps.Sending.{GivesNext, HasGiven, HasSent, Numbered, SendsBegun, SendsMore, SendsNext};
 
 use crate::capturing::Capture;
 use crate::hart::Hart;
@@ -45,9 +46,10 @@ pub(crate) struct Tracer {
 impl Tracer {
     /// A hart of which no packet was given.
     fn new(hart: Hart, period: u16, mode: Mode) -> Tracer
-        requires walked { (words : Words) → HasWalked words [] hart }
-        requires period { 1 ≤ period }
-        ensures { (words : Words) → HasGiven words period mode [] result }
+        requires { 1 ≤ period }
+        ensures given { (words : Words) (plan : Plan) (number : ℕ) → plan.period ≡ period → plan.mode ≡ mode
+            → HasWalked words (plan.start number) [] hart → HasGiven words plan number [] result }
+        ensures hart { result.hart ≡ hart }
     {
         Tracer {
             hart,
@@ -57,15 +59,18 @@ impl Tracer {
     }
 
     /// The packet that opens the trace, or the next one: the hart goes on until one is due. There is none where the
-    /// hart
-    /// has no event more, and after the trace was closed.
+    /// hart has no event more, and after the trace was closed.
     fn next(&mut self, program: &ProgramOver) -> Burst
-        ensures given { (period : ℕ) (mode : AnyMode) (given : List AnyPacket)
-            → HasGiven (words_of program.now) period mode given self.old
-            → HasGiven (words_of program.now) period mode (given ++ result.items) self.new }
-        ensures profile { (period : ℕ) (mode : AnyMode) (given : List AnyPacket)
-            → HasGiven (words_of program.now) period mode given self.old → All InProfile result.items }
-        ensures opened { self.old.phase ≡ Phase.Fresh → self.new.phase ≡ Phase.Open }
+        ensures given { (plan : Plan) (number : ℕ) (given : List AnyPacket)
+            → HasGiven (words_of program.now) plan number given self.old
+            → HasGiven (words_of program.now) plan number (given ++ result.items) self.new }
+        ensures profile { (plan : Plan) (number : ℕ) (given : List AnyPacket)
+            → HasGiven (words_of program.now) plan number given self.old → All InProfile result.items }
+        ensures next { (plan : Plan) (number : ℕ) (given : List AnyPacket)
+            → HasGiven (words_of program.now) plan number given self.old
+            → GivesNext (words_of program.now) plan number self.old self.new result.items }
+        ensures opened { self.old.phase ≡ Phase.Fresh
+            → (self.new.phase ≡ Phase.Open) × (self.new.hart ≡ self.old.hart) }
     {
         match self.phase {
             Phase::Fresh => {
@@ -82,16 +87,16 @@ impl Tracer {
     /// Goes on until a packet is due.
     fn run(&mut self, program: &ProgramOver) -> Burst
         requires { self.old.phase ≡ Phase.Open }
-        ensures given { (period : ℕ) (mode : AnyMode) (given : List AnyPacket)
-            → HasGiven (words_of program.now) period mode given self.old
-            → HasGiven (words_of program.now) period mode (given ++ result.items) self.new }
-        ensures profile { (period : ℕ) (mode : AnyMode) (given : List AnyPacket)
-            → HasGiven (words_of program.now) period mode given self.old → All InProfile result.items }
+        ensures given { (plan : Plan) (number : ℕ) (given : List AnyPacket)
+            → HasGiven (words_of program.now) plan number given self.old
+            → HasGiven (words_of program.now) plan number (given ++ result.items) self.new }
+        ensures profile { (plan : Plan) (number : ℕ) (given : List AnyPacket)
+            → HasGiven (words_of program.now) plan number given self.old → All InProfile result.items }
+        ensures next { (plan : Plan) (number : ℕ) (given : List AnyPacket)
+            → HasGiven (words_of program.now) plan number given self.old
+            → GivesNext (words_of program.now) plan number self.old self.new result.items }
     {
-        for _ in 0..u32::MAX {
-            let Some(event) = self.hart.next_event(program) else {
-                return Burst::new();
-            };
+        while let Some(event) = self.hart.next_event(program) {
             let burst = self.encoder.push(program, event);
             if !burst.is_empty() {
                 return burst;
@@ -103,12 +108,13 @@ impl Tracer {
     /// Closes the trace, and returns the packets that are left.
     fn close(&mut self, program: &ProgramOver) -> Burst
         requires { self.old.phase ≡ Phase.Open }
-        ensures given { (period : ℕ) (mode : AnyMode) (given : List AnyPacket)
-            → HasGiven (words_of program.now) period mode given self.old
-            → HasGiven (words_of program.now) period mode (given ++ result.items) self.new }
-        ensures profile { (period : ℕ) (mode : AnyMode) (given : List AnyPacket)
-            → HasGiven (words_of program.now) period mode given self.old → All InProfile result.items }
+        ensures given { (plan : Plan) (number : ℕ) (given : List AnyPacket)
+            → HasGiven (words_of program.now) plan number given self.old
+            → HasGiven (words_of program.now) plan number (given ++ result.items) self.new }
+        ensures profile { (plan : Plan) (number : ℕ) (given : List AnyPacket)
+            → HasGiven (words_of program.now) plan number given self.old → All InProfile result.items }
         ensures closed { self.new.phase ≡ Phase.Closed }
+        ensures kept { self.new.hart ≡ self.old.hart }
     {
         self.phase = Phase::Closed;
         Encoder::from_state(self.encoder.state()).finish(program)
@@ -174,8 +180,11 @@ pub(crate) struct Sender {
 impl Sender {
     /// The hart of this number, which sent no message.
     pub(crate) fn new(extent: Extent, asked: &Capture, hart: u16) -> Sender
-        requires { 1 ≤ asked.now.period }
-        ensures { (words : Words) → HasSent words asked.now.period asked.now.mode hart [] result }
+        requires period { 1 ≤ asked.now.period }
+        requires even { extent.base % 2 ≡ 0 }
+        ensures { (words : Words) (plan : Plan) → plan.period ≡ asked.now.period → plan.mode ≡ asked.now.mode
+            → plan.start hart ≡ first_walk extent asked.now.mix asked.now.seed hart
+            → HasSent words plan hart [] result }
     {
         let walker = Hart::within(extent, asked.mix, asked.seed, hart);
         Sender {
@@ -190,15 +199,16 @@ impl Sender {
         program: &ProgramOver,
         sink: &mut W,
     ) -> Result<(), MessageFault>
-        ensures sent { (period : ℕ) (mode : AnyMode) (hart : ℕ) (own : List AnyMessage)
-            → HasSent (words_of program.now) period mode hart own self.old
-            → OnOk result (SendsMore (words_of program.now) period mode hart own self.new
+        ensures sent { (plan : Plan) (hart : ℕ) (own : List AnyMessage)
+            → HasSent (words_of program.now) plan hart own self.old
+            → OnOk result (SendsNext (words_of program.now) plan hart own self.old self.new
             (W.contents sink.old) (W.contents sink.new)) }
-        ensures begun { (period : ℕ) (mode : AnyMode) (hart : ℕ) (own : List AnyMessage)
-            → HasSent (words_of program.now) period mode hart own self.old
-            → SendsBegun (words_of program.now) period mode hart own self.new
+        ensures begun { (plan : Plan) (hart : ℕ) (own : List AnyMessage)
+            → HasSent (words_of program.now) plan hart own self.old
+            → SendsBegun (words_of program.now) plan hart own self.new
             (W.contents sink.old) (W.contents sink.new) }
-        ensures opened { self.old.tracer.phase ≡ Phase.Fresh → self.new.tracer.phase ≡ Phase.Open }
+        ensures opened { self.old.tracer.phase ≡ Phase.Fresh
+            → (self.new.tracer.phase ≡ Phase.Open) × (self.new.tracer.hart ≡ self.old.tracer.hart) }
         ensures fault { IfErr result (λ fault. fault ≡ MessageFault.Write) }
     {
         let burst = self.tracer.next(program);
@@ -211,15 +221,16 @@ impl Sender {
         program: &ProgramOver,
         sink: &mut W,
     ) -> Result<(), MessageFault>
-        ensures sent { (period : ℕ) (mode : AnyMode) (hart : ℕ) (own : List AnyMessage)
-            → HasSent (words_of program.now) period mode hart own self.old
-            → OnOk result (SendsMore (words_of program.now) period mode hart own self.new
+        ensures sent { (plan : Plan) (hart : ℕ) (own : List AnyMessage)
+            → HasSent (words_of program.now) plan hart own self.old
+            → OnOk result (SendsMore (words_of program.now) plan hart own self.new
             (W.contents sink.old) (W.contents sink.new)) }
-        ensures begun { (period : ℕ) (mode : AnyMode) (hart : ℕ) (own : List AnyMessage)
-            → HasSent (words_of program.now) period mode hart own self.old
-            → SendsBegun (words_of program.now) period mode hart own self.new
+        ensures begun { (plan : Plan) (hart : ℕ) (own : List AnyMessage)
+            → HasSent (words_of program.now) plan hart own self.old
+            → SendsBegun (words_of program.now) plan hart own self.new
             (W.contents sink.old) (W.contents sink.new) }
         ensures closed { OnOk result (self.new.tracer.phase ≡ Phase.Closed) }
+        ensures kept { self.new.tracer.hart ≡ self.old.tracer.hart }
         ensures fault { IfErr result (λ fault. fault ≡ MessageFault.Write) }
     {
         match self.tracer.phase {
@@ -235,15 +246,16 @@ impl Sender {
     /// Sends the messages that are left of a trace that was opened, and the one that closes it.
     fn close<W: Write>(&mut self, program: &ProgramOver, sink: &mut W) -> Result<(), MessageFault>
         requires { self.old.tracer.phase ≡ Phase.Open }
-        ensures sent { (period : ℕ) (mode : AnyMode) (hart : ℕ) (own : List AnyMessage)
-            → HasSent (words_of program.now) period mode hart own self.old
-            → OnOk result (SendsMore (words_of program.now) period mode hart own self.new
+        ensures sent { (plan : Plan) (hart : ℕ) (own : List AnyMessage)
+            → HasSent (words_of program.now) plan hart own self.old
+            → OnOk result (SendsMore (words_of program.now) plan hart own self.new
             (W.contents sink.old) (W.contents sink.new)) }
-        ensures begun { (period : ℕ) (mode : AnyMode) (hart : ℕ) (own : List AnyMessage)
-            → HasSent (words_of program.now) period mode hart own self.old
-            → SendsBegun (words_of program.now) period mode hart own self.new
+        ensures begun { (plan : Plan) (hart : ℕ) (own : List AnyMessage)
+            → HasSent (words_of program.now) plan hart own self.old
+            → SendsBegun (words_of program.now) plan hart own self.new
             (W.contents sink.old) (W.contents sink.new) }
         ensures closed { self.new.tracer.phase ≡ Phase.Closed }
+        ensures kept { self.new.tracer.hart ≡ self.old.tracer.hart }
         ensures fault { IfErr result (λ fault. fault ≡ MessageFault.Write) }
     {
         let burst = self.tracer.close(program);

@@ -1,11 +1,15 @@
 //! How a hart walks through a program: what it draws where the program leaves it open.
-//!
-//! Nothing is promised of a walk. What it proposes is checked before it is an event of a log.
 
+ghost use Rattle.std.specs.Prelude.{◌≡◌, ◌%◌, ◌/◌, ◌==◌, ◌&&◌, if◌then◌else◌, nat_le, nat_lt};
+ghost use Rattle.retire.specs.Is64Bit.{Is64Bit};
+ghost use Rattle.rvclass.specs.Fetch.{words_of};
 ghost use Rattle.rvclass.specs.Image.{IsImage};
+ghost use Rattle.legalpath.specs.Allowed.{may_retire_at};
+ghost use Rattle.stimulus.specs.Walk.{branches, comes_at, draws_trap, epc_by, excepts, extent_of, first_walk, handles};
+ghost use Rattle.stimulus.specs.Walk.{lands, level_of, levels, number, retires_free, retires_to, returns_by, steps};
 
 use crate::mix::{Habits, Mix, habits_of};
-use legalpath::{Next, greatest_after, leads, may_retire_at};
+use legalpath::{greatest_after, may_retire_at};
 use rand_core::utils::NextWord;
 use rand_pcg::Pcg32;
 use retire::{
@@ -36,7 +40,8 @@ pub(crate) struct Extent {
 impl Extent {
     /// The extent of this program, whose pieces are taken for one from the lowest base on.
     pub(crate) fn of(program: &ProgramOver) -> Extent
-        ensures { IsImage program.now }
+        ensures extent { result ≡ extent_of program.now }
+        ensures image { IsImage program.now }
     {
         Extent {
             base: program.base(),
@@ -56,15 +61,13 @@ pub(crate) struct Walk {
     privilege: u8,
     /// Whether the next event may be anywhere.
     is_free: bool,
-    /// Where the event that was proposed leads.
-    next: Next,
-    /// The class of the instruction that it retires.
-    class: Class,
 }
 
 impl Walk {
     /// The walk of a hart before its first event.
-    pub(crate) fn new(extent: Extent, mix: Mix, seed: u64, hart: u16) -> Walk {
+    pub(crate) fn new(extent: Extent, mix: Mix, seed: u64, hart: u16) -> Walk
+        ensures { result ≡ first_walk extent mix seed hart }
+    {
         let mut walk = Walk {
             extent,
             habits: habits_of(mix),
@@ -72,99 +75,110 @@ impl Walk {
             at: 0,
             privilege: 3,
             is_free: true,
-            next: Next::Any,
-            class: Class::NotRetirable,
         };
         walk.land();
-        walk.privilege = walk.level_up_to(3);
+        walk.level_up_to(3);
         walk
     }
 
-    /// What the hart does next.
+    /// The hart's next event.
     #[inline]
-    pub(crate) fn propose(&mut self, program: &ProgramOver) -> Event {
-        self.next = Next::Any;
+    #[tactic(auto, unfolding(crate::specs::Walk::steps))]
+    pub(crate) fn step(&mut self, program: &ProgramOver) -> Event
+        ensures event { (result, self.new) ≡ steps (words_of program.now) self.old }
+        ensures numbers { Is64Bit result }
+    {
         let of_65536 = if self.is_free {
             self.habits.nested
         } else {
             self.habits.traps
         };
         if self.random.next_word() % 65_536 < of_65536 {
-            return self.trap();
+            let event = self.trap();
+            self.handle();
+            return event;
         }
         let at = self.at;
-        let Some((class, length)) = program.at(at) else {
-            return self.exception(ACCESS_FAULT, at);
-        };
-        if matches!(class, Class::NotRetirable) {
-            return self.exception(CALL + self.privilege % 4, 0);
+        match program.at(at) {
+            Some((class, length)) => self.come_at(program, class, at + u64::from(length)),
+            None => self.except(ACCESS_FAULT, at),
         }
-        if !may_retire_at(class, self.privilege) {
-            return self.exception(ILLEGAL, 0);
+    }
+
+    /// What comes at an instruction of this class, by the address after it.
+    #[inline]
+    fn come_at(&mut self, program: &ProgramOver, class: Class, behind: u64) -> Event
+        ensures { (result, self.new) ≡ comes_at (words_of program.now) class behind self.old }
+    {
+        match class {
+            Class::Plain => self.retire_to(ITYPE_OTHER, behind),
+            Class::Jump(to) => self.retire_to(ITYPE_OTHER, to),
+            Class::Branch(to) => self.branch(program, to, behind),
+            Class::Uninferable => self.retire_free(ITYPE_UNINFERABLE),
+            Class::TrapReturn(_) => self.come_back(class),
+            Class::NotRetirable => self.except(CALL + self.privilege % 4, 0),
         }
-        let itype = self.itype_of(program, class, at + u64::from(length));
-        self.next = leads(at, itype, class, length);
-        self.class = class;
+    }
+
+    /// The instruction at the place retires, and leads to this address alone.
+    fn retire_to(&mut self, itype: u8, to: u64) -> Event
+        ensures { (result, self.new) ≡ retires_to itype to self.old }
+    {
+        let addr = self.at;
+        self.at = to;
+        self.is_free = false;
         Event::Retire {
-            addr: at,
+            addr,
             itype,
             privilege: self.privilege,
         }
     }
 
-    /// Goes to where the event leads that was proposed, or where it is drawn.
-    #[inline]
-    pub(crate) fn go_on(&mut self, event: &Event) {
-        match self.next {
-            Next::One(to) => {
-                self.at = to;
-                self.is_free = false;
-            }
-            _ => {
-                self.land();
-                self.is_free = true;
-            }
-        }
-        match event {
-            Event::Trap { .. } => self.privilege = self.handling(),
-            Event::Retire { itype, .. } => {
-                if *itype == ITYPE_TRAP_RETURN {
-                    self.privilege = self.level_up_to(greatest_after(self.class, self.privilege));
-                }
-            }
-        }
+    /// The instruction at the place retires, and leads anywhere.
+    fn retire_free(&mut self, itype: u8) -> Event
+        ensures { (result, self.new) ≡ retires_free itype self.old }
+    {
+        let event = Event::Retire {
+            addr: self.at,
+            itype,
+            privilege: self.privilege,
+        };
+        self.land();
+        event
     }
 
-    /// The type of a retirement. A branch before the end of the program is taken.
-    fn itype_of(&mut self, program: &ProgramOver, class: Class, behind: u64) -> u8 {
-        match class {
-            Class::Branch(to) => {
-                if self.takes(to) || program.at(behind).is_none() {
-                    ITYPE_TAKEN
-                } else {
-                    ITYPE_NOT_TAKEN
-                }
-            }
-            Class::Uninferable => ITYPE_UNINFERABLE,
-            Class::TrapReturn(_) => ITYPE_TRAP_RETURN,
-            _ => ITYPE_OTHER,
+    /// A branch retires, taken or not.
+    #[tactic(auto, unfolding(crate::specs::Walk::branches))]
+    fn branch(&mut self, program: &ProgramOver, to: u64, behind: u64) -> Event
+        ensures { (result, self.new) ≡ branches (words_of program.now) to behind self.old }
+    {
+        let draw = self.random.next_word();
+        if takes(to, self.at, draw) || program.at(behind).is_none() {
+            return self.retire_to(ITYPE_TAKEN, to);
         }
+        self.retire_to(ITYPE_NOT_TAKEN, behind)
     }
 
-    /// Whether a branch to this address is taken: of 256 backward branches 240 are, and half of the others.
-    fn takes(&mut self, to: u64) -> bool {
-        let of_256 = if to <= self.at { 240 } else { 128 };
-        self.random.next_word() % 256 < of_256
+    /// A return from a trap retires, or is an illegal instruction at the hart's level.
+    fn come_back(&mut self, class: Class) -> Event
+        ensures { (result, self.new) ≡ returns_by (may_retire_at class self.old.privilege) class self.old }
+    {
+        if !may_retire_at(class, self.privilege) {
+            return self.except(ILLEGAL, 0);
+        }
+        let greatest = greatest_after(class, self.privilege);
+        let event = self.retire_free(ITYPE_TRAP_RETURN);
+        self.level_up_to(greatest);
+        event
     }
 
     /// A trap that the program does not call for. Where the hart may be anywhere, each second is at any address.
-    fn trap(&mut self) -> Event {
+    #[tactic(auto, unfolding(crate::specs::Walk::draws_trap))]
+    fn trap(&mut self) -> Event
+        ensures { (result, self.new) ≡ draws_trap self.old }
+    {
         let draw = self.random.next_word();
-        let epc = if self.is_free && draw / 256 % 2 == 0 {
-            self.number(63) / 2 * 2
-        } else {
-            self.at
-        };
+        let epc = self.epc(draw);
         if draw % 256 < self.habits.interrupts {
             return Event::Trap {
                 epc,
@@ -174,28 +188,47 @@ impl Walk {
                 tval: 0,
             };
         }
+        let tval = self.number(self.habits.shortened);
         Event::Trap {
             epc,
             privilege: self.privilege,
             interrupt: false,
             cause: (draw / 1024 % 64) as u8,
-            tval: self.number(self.habits.shortened),
+            tval,
         }
     }
 
+    /// The exception program counter of a trap, by the draw that describes it.
+    fn epc(&mut self, draw: u32) -> u64
+        ensures { (result, self.new) ≡ epc_by (self.old.is_free && (draw / 256 % 2 == 0)) self.old }
+    {
+        if self.is_free && draw / 256 % 2 == 0 {
+            return self.number(63) / 2 * 2;
+        }
+        self.at
+    }
+
     /// An exception at the next instruction.
-    fn exception(&self, cause: u8, tval: u64) -> Event {
-        Event::Trap {
+    #[tactic(auto, unfolding(crate::specs::Walk::excepts))]
+    fn except(&mut self, cause: u8, tval: u64) -> Event
+        ensures { (result, self.new) ≡ excepts cause tval self.old }
+    {
+        let event = Event::Trap {
             epc: self.at,
             privilege: self.privilege,
             interrupt: false,
             cause,
             tval,
-        }
+        };
+        self.handle();
+        event
     }
 
     /// A number of 64 bits, shortened by a drawn count of bits, at most this many.
-    fn number(&mut self, shortened: u32) -> u64 {
+    #[tactic(auto, unfolding(crate::specs::Walk::number))]
+    fn number(&mut self, shortened: u32) -> u64
+        ensures { (result, self.new) ≡ number shortened self.old }
+    {
         let low = u64::from(self.random.next_word());
         let high = u64::from(self.random.next_word());
         let by = self.random.next_word() % (shortened % 64 + 1);
@@ -203,31 +236,59 @@ impl Walk {
     }
 
     /// Goes to a slot of the program.
-    fn land(&mut self) {
+    #[tactic(auto, unfolding(crate::specs::Walk::lands))]
+    fn land(&mut self)
+        ensures { self.new ≡ lands self.old }
+    {
         let size = self.extent.size.max(4);
         let far = u64::from(self.random.next_word()) % size / 4 * 4;
         self.at = self.extent.base.wrapping_add(far);
+        self.is_free = true;
     }
 
-    /// The privilege of a trap's handler: machine level, or supervisor level for half of the traps from below.
-    fn handling(&mut self) -> u8 {
-        if self.privilege == 3 || self.random.next_word() % 2 == 0 {
-            3
-        } else {
-            1
+    /// Goes to a trap's handler: at machine level, or at supervisor level for half of the traps from below.
+    #[tactic(auto, unfolding(crate::specs::Walk::handles))]
+    fn handle(&mut self)
+        ensures { self.new ≡ handles self.old }
+    {
+        self.land();
+        if self.privilege == 3 {
+            return;
         }
-    }
-
-    /// A privilege that is not greater than this one.
-    fn level_up_to(&mut self, greatest: u8) -> u8 {
         let draw = self.random.next_word();
-        if greatest < 3 {
-            return (draw % 2) as u8;
-        }
-        match draw % 3 {
-            0 => 0,
-            1 => 1,
-            _ => 3,
-        }
+        self.privilege = if draw % 2 == 0 { 3 } else { 1 };
     }
+
+    /// Draws a privilege that is not greater than this one.
+    #[tactic(auto, unfolding(crate::specs::Walk::levels))]
+    fn level_up_to(&mut self, greatest: u8)
+        ensures { self.new ≡ levels greatest self.old }
+    {
+        let draw = self.random.next_word();
+        self.privilege = level_of(greatest, draw);
+    }
+}
+
+/// Whether a branch to this address is taken, if there is an instruction after it: of 256 backward branches 240 are, and
+/// half of the others.
+fn takes(to: u64, at: u64, draw: u32) -> bool
+    ensures { result ≡ nat_lt (draw % 256) (if nat_le to at then 240 else 128) }
+{
+    let of_256 = if to <= at { 240 } else { 128 };
+    draw % 256 < of_256
+}
+
+/// The privilege that a draw says, which is not greater than this one.
+#[tactic(auto, unfolding(crate::specs::Walk::level_of))]
+fn level_of(greatest: u8, draw: u32) -> u8
+    ensures { result ≡ level_of greatest draw }
+{
+    if greatest < 3 {
+        return (draw % 2) as u8;
+    }
+    let level = draw % 3;
+    if level == 2 {
+        return 3;
+    }
+    level as u8
 }

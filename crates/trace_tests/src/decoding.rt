@@ -26,11 +26,12 @@ fn synchronisation_that_is_refused(rt: HostRuntime) {
     let mut decoder = Decoder::new();
     decoder.resume(Differential);
     let heap = LocalHeap::new(rt.alloc(), 0).expect(&rt, "memory");
-    let answer = decoder.feed(&program, &START, &mut Vec::new(&heap));
-    same_at(&rt, "no memory", answer, Err(DecodeFault::Memory));
+    let refused = decoder.feed(&program, &START, &mut Vec::new(&heap));
     let mut stretch = Vec::new(rt.alloc());
-    for (place, packet) in [OPEN, START].iter().enumerate() {
-        let answer = decoder.feed(&program, packet, &mut stretch);
-        same_at(&rt, place, (answer, stretch.len()), (Ok(()), place));
-    }
+    let passed = decoder.feed(&program, &OPEN, &mut stretch).is_ok();
+    let before = stretch.len();
+    let taken = decoder.feed(&program, &START, &mut stretch).is_ok();
+    let found = [refused == Err(DecodeFault::Memory), passed, taken];
+    same_at(&rt, "answers", found, [true; 3]);
+    same_at(&rt, "events", [before, stretch.len()], [0, 1]);
 }

@@ -1,10 +1,8 @@
-//! Channels, in one thread and in several, and allocations that fail.
+//! Channels over threads, and allocations that fail. A channel in one thread is a case of `channel_vectors`.
 
 mod allocations;
 mod calling;
-mod dropped;
 mod made;
-mod one_thread;
 mod room;
 mod waking;
 mod workers;

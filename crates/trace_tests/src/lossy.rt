@@ -16,12 +16,14 @@ fn no_memory(rt: HostRuntime) {
     let messages = [message(&rt, 0, 0, b"\x1f")];
     let heap = LocalHeap::new(rt.alloc(), 0).expect(&rt, "memory");
     let found = collect_lossy(&heap, &program, 1, Mode::Differential, &messages).err();
-    same_at(&rt, "no memory", found, Some(LossyFault::Memory));
-    for fault in [
-        LossyFault::Decode(7, DecodeFault::Memory),
-        LossyFault::Memory,
-    ] {
-        let printed = format!(in rt.alloc(); "{fault}").expect(&rt, "memory");
-        same_at(&rt, fault, printed.as_str(), "out of memory");
-    }
+    let decoding = LossyFault::Decode(7, DecodeFault::Memory);
+    let printed = format!(in rt.alloc(); "{decoding}, {}", LossyFault::Memory);
+    let printed = printed.expect(&rt, "memory");
+    same_at(&rt, "no memory", found == Some(LossyFault::Memory), true);
+    same_at(
+        &rt,
+        "the texts",
+        printed.as_str(),
+        "out of memory, out of memory",
+    );
 }

@@ -69,9 +69,16 @@ fn has_first<R: Abort + AllocGlobal>(
 ) {
     let events = outcome.harts.get(place.1).expect(rt, "a hart");
     let log = log_of(rt, rows);
-    same_at(rt, place, Some(events.as_slice()), log.get(..count));
-    let closed = outcome.closed.get(place.1).copied();
-    same_at(rt, place, closed, Some(count == log.len()));
+    let found = (
+        Some(events.as_slice()),
+        outcome.closed.get(place.1).copied(),
+    );
+    same_at(
+        rt,
+        place,
+        found,
+        (log.get(..count), Some(count == log.len())),
+    );
 }
 
 /// Ends the test unless this is the answer where the request at this place is refused: an error where the request is
@@ -85,8 +92,7 @@ fn ends_at<R: Abort + AllocGlobal>(rt: &R, place: usize, answer: Answer<'_>) {
         Some((message, first, second)) => (Some((*message, MEMORY)), *first, *second),
         None => (None, 33, 5),
     };
-    same_at(rt, place, outcome.harts.len(), 2);
-    same_at(rt, place, outcome.fault, fault);
+    same_at(rt, place, (outcome.harts.len(), outcome.fault), (2, fault));
     has_first(rt, (place, 0), &outcome, BRANCHES, first);
     has_first(rt, (place, 1), &outcome, INTERRUPTED, second);
 }

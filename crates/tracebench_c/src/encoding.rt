@@ -4,7 +4,7 @@ ghost use Rattle.std.specs.Prelude.{[], ◌∷◌, ◌≡◌, ◌≢◌, Some, m
 ghost use Rattle.encoder.specs.PacketsSoFar.{packets_so_far};
 ghost use Rattle.ffi.specs.Encoded.{ReportsEncode, mode_of};
 ghost use Rattle.ffi.specs.EncoderKept.{NumbersStand};
-ghost use Rattle.ffi.specs.Images.{OfPieces, judged_pieces};
+ghost use Rattle.ffi.specs.Images.{OfPieces};
 ghost use Rattle.ffi.specs.Numbers.{numbers_of};
 ghost use Rattle.ffi.specs.Pushed.{ReportsFinish, new_status};
 ghost use Rattle.ffi.specs.PushedAll.{ReportsPushAll};
@@ -29,8 +29,8 @@ pub extern "C" fn tracebench_encode(
     wanted: &mut u64,
     place: &mut LogPlace,
 ) -> u32
-    ensures { ReportsEncode (judged_pieces pieces.now) logs.now ends.now period mode version result wanted.old
-        wanted.new place.old place.new buffer.old buffer.new }
+    ensures { OfPieces pieces.now (λ image. ReportsEncode image logs.now ends.now period mode version result wanted.old
+        wanted.new place.old place.new buffer.old buffer.new) }
 {
     ffi::tracebench_encode(
         alloc, pieces, logs, ends, period, mode, version, buffer, wanted, place,

@@ -11,7 +11,6 @@ use crate::verdict::{Outcome, Verdict};
 use cases::{Case, DataFile, Tally, data_files};
 use cli::asked;
 use commands::{Files, command};
-use std::alloc::{AllocError, Global};
 use std::io::ErrorKind;
 use std::process::ExitCode;
 use std::rt::{Env, Files as Host};
@@ -62,17 +61,28 @@ fn play_file<R: Host + Eprint + AllocGlobal + Threads + Wait + Sync, D: Files + 
 where
     D::Reader: Send,
 {
+    let name = file.name.as_str();
     let mut page = Page::new(rt.alloc());
     for (i, line) in file.text.lines().enumerate() {
-        let place = (file.name.as_str(), i.saturating_add(1));
         if ends_run(line) {
-            end_run(rt, disk, tally, place.0, &mut page, way)?;
+            end_run(rt, disk, tally, name, &mut page, way)?;
         }
-        let mut notes = Case::new(rt.alloc(), "");
-        page.read_line(&mut notes, place.1, line);
-        count_malformed(rt, tally, place, line, &notes)?;
+        read_line(rt, tally, (name, i.saturating_add(1)), line, &mut page)?;
     }
-    end_run(rt, disk, tally, file.name.as_str(), &mut page, way)
+    end_run(rt, disk, tally, name, &mut page, way)
+}
+
+/// Reads a line of a transcript.
+fn read_line<'a, R: Eprint + AllocGlobal>(
+    rt: &R,
+    tally: &mut Tally,
+    place: (&str, usize),
+    line: &'a str,
+    page: &mut Page<'a>,
+) -> io::Result<()> {
+    let mut notes = Case::new(rt.alloc(), "");
+    page.read_line(&mut notes, place.1, line);
+    count_malformed(rt, tally, place, line, &notes)
 }
 
 /// Counts a line that has no meaning as a run that failed.
@@ -127,9 +137,11 @@ where
     let (first, last) = range_of(notes, page.run.line);
     for number in first..last.saturating_add(1) {
         let mut verdict = Verdict::new(rt.alloc());
-        play_number(rt, disk, page, way, number, notes, &mut verdict)?;
+        play_number(rt, disk, page, way, number, notes, &mut verdict);
         let Verdict { wanted, came } = verdict;
-        tally.count(rt, place, wanted.as_str(), came.as_str())?;
+        notes.join(&wanted);
+        notes.join(&came);
+        tally.count(rt, place, wanted.came.as_str(), came.came.as_str())?;
     }
     Ok(())
 }
@@ -143,32 +155,50 @@ fn play_number<R: Host + AllocGlobal + Threads + Wait + Sync, D: Files + Sync>(
     number: u64,
     notes: &mut Case<'_>,
     verdict: &mut Verdict,
-) -> io::Result<()>
+)
 where
     D::Reader: Send,
 {
-    if let Some(text) = page.run.line.strip_prefix("& ") {
+    let line = page.run.line;
+    if let Some(text) = line.strip_prefix("& ") {
         return is_called(rt, disk, page, text, notes, verdict);
     }
-    if let Some(line) = page.run.line.strip_prefix('%') {
-        let words = words_of(notes, line, number);
-        return Ok(is_asked(rt.alloc(), words.as_slice(), &page.run, verdict)?);
+    let words = line.strip_prefix(['$', '%']).unwrap_or("");
+    let words = words_of(notes, words, number);
+    if line.starts_with('%') {
+        return is_asked(notes, words.as_slice(), &page.run, verdict);
     }
-    let line = page.run.line.strip_prefix('$').unwrap_or("");
-    let mut words = words_of(notes, line, number);
+    is_played(rt, disk, page, way, words, notes, verdict);
+}
+
+/// A run with these arguments has the result that it must have in this way.
+fn is_played<R: Host + AllocGlobal + Threads + Wait + Sync, D: Files + Sync>(
+    rt: &R,
+    disk: &mut D,
+    page: &mut Page<'_>,
+    way: Way,
+    mut words: Vec<String>,
+    notes: &mut Case<'_>,
+    verdict: &mut Verdict,
+)
+where
+    D::Reader: Send,
+{
     if matches!(way, Way::Shown) && is_among(words.as_slice(), &READERS) {
-        words.push(String::from_str(rt.alloc(), "--progress")?)?;
+        let mut word = notes.again();
+        word.put("--progress");
+        notes.push(&mut words, word.came);
     }
     let words = words.as_slice();
-    for word in words {
-        page.shelf.cut(word.as_str())?;
-    }
     let Page { shelf, run, .. } = page;
+    for word in words {
+        notes.note(shelf.cut(word.as_str()));
+    }
     match way {
-        Way::Whole | Way::Shown => Ok(is_run(rt, shelf, words, run, verdict)?),
-        Way::Failing => Ok(fails_at_each_call(rt, shelf, words, run, verdict)?),
-        Way::Bare => Ok(is_run_over_none(rt, words, run, verdict)?),
-        Way::Disk => is_run_on(rt, disk, shelf, words, run, verdict),
+        Way::Whole | Way::Shown => is_run(rt, shelf, words, run, verdict),
+        Way::Failing => fails_at_each_call(rt, shelf, words, run, verdict),
+        Way::Bare => is_run_over_none(rt, words, run, verdict),
+        Way::Disk => is_run_on(rt, disk, shelf, words, run, notes, verdict),
     }
 }
 
@@ -180,37 +210,31 @@ fn is_called<R: Host + AllocGlobal, D: Files>(
     text: &str,
     notes: &mut Case<'_>,
     verdict: &mut Verdict,
-) -> io::Result<()> {
+) {
     let mut out = Vec::new(rt.alloc());
     match text.strip_prefix("regular ") {
         Some(path) => {
-            put_file(rt, &page.shelf, path)?;
+            put_file(rt, &page.shelf, path, notes);
             add_shown(notes, &mut out, disk.is_regular(path));
         }
         None => page.progress.call(notes, text, &mut out),
     }
     let came = (0, out.as_slice(), b"".as_slice());
-    Ok(verdict.ends(0, page.run.outcome(), came)?)
+    verdict.ends(0, page.run.outcome(), came);
 }
 
 /// The arguments ask for what is printed, or they are refused with what is reported.
-fn is_asked(
-    alloc: Global,
-    words: &[String],
-    run: &Run<'_>,
-    verdict: &mut Verdict,
-) -> Result<(), AllocError> {
-    let mut out = Case::new(alloc, "");
-    let mut err = Case::new(alloc, "");
-    match asked(alloc, words) {
+fn is_asked(notes: &mut Case<'_>, words: &[String], run: &Run<'_>, verdict: &mut Verdict) {
+    let mut out = notes.again();
+    let mut err = notes.again();
+    match asked(notes.alloc, words) {
         Ok(request) => put_asked(&mut out, &request),
         Err(error) => err.put_shown(error),
     }
-    if out.is_failed() || err.is_failed() {
-        return Err(AllocError);
-    }
+    notes.join(&out);
+    notes.join(&err);
     let came = (0, out.came.as_bytes(), err.came.as_bytes());
-    verdict.ends(0, run.outcome(), came)
+    verdict.ends(0, run.outcome(), came);
 }
 
 /// Whether the subcommand of a line is one of these.
@@ -242,55 +266,39 @@ fn times(path: &str, paths: &[String]) -> u64 {
 }
 
 /// No file was read more often than the arguments name it, and where all is done, each was read as often.
-fn each_is_read_once(
-    shelf: &Shelf,
-    words: &[String],
-    is_done: bool,
-    verdict: &mut Verdict,
-) -> Result<(), AllocError> {
+fn each_is_read_once(shelf: &Shelf, words: &[String], is_done: bool, verdict: &mut Verdict) {
     let mut last = "";
     for word in words {
         let path = path_in(word.as_str());
         if path != last && shelf.content(path).is_some() {
             let named = times(path, words);
             let least = if is_done { named } else { 0 };
-            verdict.counts(path, (least, named), shelf.reads(path))?;
+            verdict.counts(path, (least, named), shelf.reads(path));
         }
         last = path;
     }
-    Ok(())
 }
 
 /// Progress was begun once at most, where the arguments ask for it, and where all is done just once; of `compare` twice,
 /// for the capture and then for the logs. What was begun was ended.
-fn progress_is_as_asked(
-    shelf: &Shelf,
-    words: &[String],
-    is_done: bool,
-    verdict: &mut Verdict,
-) -> Result<(), AllocError> {
+fn progress_is_as_asked(shelf: &Shelf, words: &[String], is_done: bool, verdict: &mut Verdict) {
     let (begun, ended) = shelf.progress();
     let rounds = if is_among(words, &["compare"]) { 2 } else { 1 };
     let asked = times("--progress", words).saturating_mul(rounds);
     let least = if is_done { asked } else { 0 };
-    verdict.counts("ends of progress", (begun, begun), ended)?;
-    verdict.counts("begins of progress", (least, asked), begun)
+    verdict.counts("ends of progress", (begun, begun), ended);
+    verdict.counts("begins of progress", (least, asked), begun);
 }
 
 /// No more messages were noted than were announced, and where all are worked through, as many. Each was noted between
 /// the begin and the end, and the end came once.
-fn messages_are_noted(
-    shelf: &Shelf,
-    words: &[String],
-    status: u8,
-    verdict: &mut Verdict,
-) -> Result<(), AllocError> {
+fn messages_are_noted(shelf: &Shelf, words: &[String], status: u8, verdict: &mut Verdict) {
     let (messages, noted) = shelf.messages();
     let goes_on = is_among(words, &TO_THE_END) || times("--salvage", words) > 0;
     let to_the_end = status == 0 || (status < 2 && goes_on);
     let least = if to_the_end { messages } else { 0 };
-    verdict.counts("messages out of time", (0, 0), shelf.strays())?;
-    verdict.counts("messages noted", (least, messages), noted)
+    verdict.counts("messages out of time", (0, 0), shelf.strays());
+    verdict.counts("messages noted", (least, messages), noted);
 }
 
 /// The run has the result that it must have, also where what it reports is not taken.
@@ -300,16 +308,16 @@ fn is_run<R: AllocGlobal + Threads + Wait + Sync>(
     words: &[String],
     run: &Run<'_>,
     verdict: &mut Verdict,
-) -> Result<(), AllocError> {
+) {
     let mut out = Vec::new(rt.alloc());
     let mut err = Vec::new(rt.alloc());
     shelf.forget_reads();
     let status = command(rt.alloc(), rt, shelf, words, &mut out, &mut err);
     let came = (u64::from(status), out.as_slice(), err.as_slice());
-    verdict.ends(0, run.outcome(), came)?;
-    each_is_read_once(shelf, words, status < 2, verdict)?;
-    progress_is_as_asked(shelf, words, status < 2, verdict)?;
-    messages_are_noted(shelf, words, status, verdict)?;
+    verdict.ends(0, run.outcome(), came);
+    each_is_read_once(shelf, words, status < 2, verdict);
+    progress_is_as_asked(shelf, words, status < 2, verdict);
+    messages_are_noted(shelf, words, status, verdict);
     line_fails_at(
         rt,
         shelf,
@@ -318,7 +326,7 @@ fn is_run<R: AllocGlobal + Threads + Wait + Sync>(
         (ErrorKind::TimedOut, 1),
         &[],
         verdict,
-    )
+    );
 }
 
 /// The output fails at this one of its calls, so the run ends with this status, having printed and reported this.
@@ -329,14 +337,14 @@ fn output_fails_at<R: AllocGlobal + Threads + Wait + Sync>(
     call: usize,
     wanted: Outcome<'_>,
     verdict: &mut Verdict,
-) -> Result<(), AllocError> {
+) {
     let mut out = FailsAt::new(rt.alloc(), ErrorKind::TimedOut, call);
     let mut err = Vec::new(rt.alloc());
     shelf.forget_reads();
     let status = command(rt.alloc(), rt, shelf, words, &mut out, &mut err);
     let came = (u64::from(status), out.bytes.as_slice(), err.as_slice());
-    verdict.ends(call, wanted, came)?;
-    progress_is_as_asked(shelf, words, status < 2, verdict)
+    verdict.ends(call, wanted, came);
+    progress_is_as_asked(shelf, words, status < 2, verdict);
 }
 
 /// The standard error fails at this one of its calls and in this way, so that it takes this much; nothing else changes.
@@ -348,13 +356,13 @@ fn line_fails_at<R: AllocGlobal + Threads + Wait + Sync>(
     (kind, call): (ErrorKind, usize),
     reported: &[u8],
     verdict: &mut Verdict,
-) -> Result<(), AllocError> {
+) {
     let mut out = Vec::new(rt.alloc());
     let mut err = FailsAt::new(rt.alloc(), kind, call);
     let status = command(rt.alloc(), rt, shelf, words, &mut out, &mut err);
     let came = (u64::from(status), out.as_slice(), err.bytes.as_slice());
     let wanted = (run.status, run.written.as_slice(), reported);
-    verdict.ends(call, wanted, came)
+    verdict.ends(call, wanted, came);
 }
 
 /// The output fails at each of its calls in turn, at each byte's and at that of the flush after them: what was printed
@@ -365,37 +373,24 @@ fn fails_at_each_call<R: AllocGlobal + Threads + Wait + Sync>(
     words: &[String],
     run: &Run<'_>,
     verdict: &mut Verdict,
-) -> Result<(), AllocError> {
+) {
     for taken in 0..run.written.len().saturating_add(1) {
         let begun = (3, run.written.get(..taken).unwrap_or(&[]), FAILED);
-        output_fails_at(rt, shelf, words, taken.saturating_add(1), begun, verdict)?;
+        output_fails_at(rt, shelf, words, taken.saturating_add(1), begun, verdict);
     }
     let behind = run.written.len().saturating_add(2);
-    output_fails_at(rt, shelf, words, behind, run.outcome(), verdict)?;
+    output_fails_at(rt, shelf, words, behind, run.outcome(), verdict);
     for taken in 0..run.reported.len() {
         let call = taken.saturating_add(1);
         let begun = run.reported.get(..taken).unwrap_or(&[]);
-        line_fails_at(
-            rt,
-            shelf,
-            words,
-            run,
-            (ErrorKind::TimedOut, call),
-            begun,
-            verdict,
-        )?;
         let whole = run.reported.as_slice();
-        line_fails_at(
-            rt,
-            shelf,
-            words,
-            run,
-            (ErrorKind::Interrupted, call),
-            whole,
-            verdict,
-        )?;
+        for (kind, reported) in [
+            (ErrorKind::TimedOut, begun),
+            (ErrorKind::Interrupted, whole),
+        ] {
+            line_fails_at(rt, shelf, words, run, (kind, call), reported, verdict);
+        }
     }
-    Ok(())
 }
 
 /// The run has the result that it must have where there is no file.
@@ -404,19 +399,18 @@ fn is_run_over_none<R: AllocGlobal + Threads + Wait + Sync>(
     words: &[String],
     run: &Run<'_>,
     verdict: &mut Verdict,
-) -> Result<(), AllocError> {
+) {
     let mut out = Vec::new(rt.alloc());
     let mut err = Vec::new(rt.alloc());
     let status = run_over_none(rt, words, &mut out, &mut err);
     let came = (u64::from(status), out.as_slice(), err.as_slice());
-    verdict.ends(0, run.outcome(), came)
+    verdict.ends(0, run.outcome(), came);
 }
 
 /// Writes a file of the shelf to the folder where this program runs, if it is there.
-fn put_file<R: Host>(rt: &R, shelf: &Shelf, path: &str) -> io::Result<()> {
-    match shelf.content(path) {
-        Some(bytes) => fs::write(rt, path, bytes),
-        None => Ok(()),
+fn put_file<R: Host>(rt: &R, shelf: &Shelf, path: &str, notes: &mut Case<'_>) {
+    if let Some(bytes) = shelf.content(path) {
+        notes.read(fs::write(rt, path, bytes));
     }
 }
 
@@ -427,17 +421,18 @@ fn is_run_on<R: Host + AllocGlobal + Threads + Wait + Sync, D: Files + Sync>(
     shelf: &Shelf,
     words: &[String],
     run: &Run<'_>,
+    notes: &mut Case<'_>,
     verdict: &mut Verdict,
-) -> io::Result<()>
+)
 where
     D::Reader: Send,
 {
     for word in words {
-        put_file(rt, shelf, path_in(word.as_str()))?;
+        put_file(rt, shelf, path_in(word.as_str()), notes);
     }
     let mut out = Vec::new(rt.alloc());
     let mut err = Vec::new(rt.alloc());
     let status = command(rt.alloc(), rt, disk, words, &mut out, &mut err);
     let came = (u64::from(status), out.as_slice(), err.as_slice());
-    Ok(verdict.ends(0, run.outcome(), came)?)
+    verdict.ends(0, run.outcome(), came);
 }

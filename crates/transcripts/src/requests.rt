@@ -1,193 +1,187 @@
 //! Requests, as they are displayed for debugging.
 
+use self::Value::{
+    Flag, Given, GivenLong, GivenShort, Layout, Program, Reports, Short, Text, Texts,
+};
 use cases::Case;
 use command_inputs::{
     Asked, Audit, Bench, Capture, Check, Compare, Decode, Dump, Encode, Format, Generate, Listing,
     Measure, Product, ProgramArgs, Replay, Salvage,
 };
+use payload::Mode;
 use std::fmt::Debug;
 
-/// Appends the name of a field and its value.
-fn put<D: Debug + Drop>(text: &mut Case<'_>, name: &str, value: D) {
+/// The value of a field. Fields are put as a list of these, since each call of a generic function costs a proof.
+#[derive(Clone, Copy)]
+enum Value<'v> {
+    Flag(&'v bool),
+    Short(&'v u16),
+    GivenShort(&'v Option<u16>),
+    GivenLong(&'v Option<u64>),
+    Reports(&'v Mode),
+    Layout(&'v Format),
+    Text(&'v str),
+    Given(&'v Option<&'v str>),
+    Texts(&'v [&'v str]),
+    Program(&'v ProgramArgs<'v>),
+}
+
+/// Appends the name of a field, and what is before its value.
+fn put_name(text: &mut Case<'_>, name: &str) {
     if !text.came.as_str().ends_with("{ ") {
         text.put(", ");
     }
     text.put(name);
     text.put(": ");
+}
+
+/// Appends the name of a field and its value.
+fn put<D: Debug + Drop>(text: &mut Case<'_>, name: &str, value: D) {
+    put_name(text, name);
     text.put_debug(value);
 }
 
-/// Appends the field of a format.
-fn put_format(text: &mut Case<'_>, format: Format) {
-    text.put(match format {
-        Format::Text => ", format: Text",
-        Format::Csv => ", format: Csv",
-        Format::Other => ", format: Other",
-    });
-}
-
-/// Appends the field of a program.
+/// Appends a program.
 fn put_program(text: &mut Case<'_>, program: &ProgramArgs<'_>) {
-    text.put("program: ProgramArgs { ");
+    text.put("ProgramArgs { ");
     put(text, "base", program.base);
     put(text, "also", program.also.as_slice());
     put(text, "image", program.image);
     text.put(" }");
 }
 
+/// Appends a value.
+fn put_value(text: &mut Case<'_>, value: Value<'_>) {
+    match value {
+        Flag(flag) => text.put_debug(*flag),
+        Short(short) => text.put_debug(*short),
+        GivenShort(short) => text.put_debug(*short),
+        GivenLong(long) => text.put_debug(*long),
+        Reports(mode) => text.put_debug(*mode),
+        Layout(format) => text.put(match format {
+            Format::Text => "Text",
+            Format::Csv => "Csv",
+            Format::Other => "Other",
+        }),
+        Text(one) => text.put_debug(one),
+        Given(given) => text.put_debug(*given),
+        Texts(texts) => text.put_debug(texts),
+        Program(program) => put_program(text, program),
+    }
+}
+
+/// Appends fields.
+fn put_fields(text: &mut Case<'_>, fields: &[(&str, Value<'_>)]) {
+    for (name, value) in fields {
+        put_name(text, *name);
+        put_value(text, *value);
+    }
+}
+
+/// Appends fields of a request, `KIND NAME` each.
+macro_rules! put_all {
+    ($text:expr, $asked:expr, $($kind:ident: $name:ident),*) => {
+        put_fields($text, &[$((stringify!($name), $kind(&$asked.$name))),*])
+    };
+}
+
 fn put_check(text: &mut Case<'_>, asked: &Check<'_>) {
     text.put("Check(Check { ");
-    put_program(text, &asked.program);
-    put(text, "explain", asked.explain);
-    put(text, "symbols", asked.symbols);
-    put(text, "long", asked.long);
-    put(text, "progress", asked.progress);
-    put(text, "logs", asked.logs.as_slice());
+    put_all!(text, asked,
+        Program: program, Flag: explain, Given: symbols, Flag: long, Flag: progress, Texts: logs);
 }
 
 fn put_encode(text: &mut Case<'_>, asked: &Encode<'_>) {
     text.put("Encode(Encode { ");
-    put_program(text, &asked.program);
-    put(text, "period", asked.period);
-    put(text, "mode", asked.mode);
+    put_all!(text, asked, Program: program, Short: period, Reports: mode);
     put(text, "version", asked.version);
-    put(text, "hex", asked.hex);
-    put(text, "mixed", asked.mixed);
-    put(text, "first", asked.first);
-    put(text, "of", asked.of);
-    put(text, "long", asked.long);
-    put(text, "progress", asked.progress);
-    put(text, "logs", asked.logs.as_slice());
+    put_all!(text, asked,
+        Flag: hex, GivenLong: mixed, GivenShort: first, GivenShort: of, Flag: long, Flag: progress,
+        Texts: logs);
 }
 
 fn put_dump(text: &mut Case<'_>, asked: &Dump<'_>) {
     text.put("Dump(Dump { ");
-    put(text, "search", asked.search);
-    put(text, "only", asked.only);
-    put(text, "symbols", asked.symbols);
-    put(text, "progress", asked.progress);
-    put(text, "capture", asked.capture);
+    put_all!(text, asked,
+        Flag: search, Given: only, Given: symbols, Flag: progress, Text: capture);
 }
 
 fn put_decode(text: &mut Case<'_>, asked: &Decode<'_>) {
     text.put("Decode(Decode { ");
-    put_program(text, &asked.program);
-    put(text, "harts", asked.harts);
-    put(text, "only", asked.only);
-    put(text, "lossy", asked.lossy);
-    put(text, "progress", asked.progress);
-    put(text, "capture", asked.capture);
+    put_all!(text, asked,
+        Program: program, Short: harts, Given: only, Flag: lossy, Flag: progress, Text: capture);
 }
 
 fn put_replay(text: &mut Case<'_>, asked: &Replay<'_>) {
     text.put("Replay(Replay { ");
-    put_program(text, &asked.program);
-    put(text, "period", asked.period);
-    put(text, "mode", asked.mode);
+    put_all!(text, asked, Program: program, Short: period, Reports: mode);
     put(text, "capacity", asked.capacity);
-    put(text, "progress", asked.progress);
-    put(text, "schedule", asked.schedule);
-    put(text, "logs", asked.logs.as_slice());
+    put_all!(text, asked, Flag: progress, Text: schedule, Texts: logs);
 }
 
 fn put_bench(text: &mut Case<'_>, asked: &Bench<'_>) {
     text.put("Bench(Bench { ");
-    put_program(text, &asked.program);
-    put(text, "period", asked.period);
-    put(text, "mode", asked.mode);
+    put_all!(text, asked, Program: program, Short: period, Reports: mode);
     put(text, "capacity", asked.capacity);
-    put(text, "progress", asked.progress);
-    put(text, "logs", asked.logs.as_slice());
+    put_all!(text, asked, Flag: progress, Texts: logs);
 }
 
 fn put_audit(text: &mut Case<'_>, asked: &Audit<'_>) {
     text.put("Audit(Audit { ");
-    put(text, "packets", asked.packets);
-    put(text, "unnumbered", asked.unnumbered);
-    put(text, "only", asked.only);
-    put(text, "summary", asked.summary);
-    put_format(text, asked.format);
-    put(text, "progress", asked.progress);
-    put(text, "sent", asked.sent);
-    put(text, "received", asked.received);
+    put_all!(text, asked,
+        Flag: packets, Flag: unnumbered, Given: only, Flag: summary, Layout: format,
+        Flag: progress, Text: sent, Text: received);
 }
 
 fn put_measure(text: &mut Case<'_>, asked: &Measure<'_>) {
     text.put("Measure(Measure { ");
-    put_program(text, &asked.program);
-    put(text, "period", asked.period);
-    put(text, "mode", asked.mode);
-    put(text, "long", asked.long);
-    put(text, "progress", asked.progress);
-    put(text, "logs", asked.logs.as_slice());
+    put_all!(text, asked,
+        Program: program, Short: period, Reports: mode, Flag: long, Flag: progress,
+        Texts: logs);
 }
 
 fn put_listing(text: &mut Case<'_>, asked: &Listing<'_>) {
     text.put("Listing(Listing { ");
-    put_program(text, &asked.program);
-    put(text, "harts", asked.harts);
-    put(text, "only", asked.only);
-    put(text, "symbols", asked.symbols);
-    put(text, "rows", asked.rows);
-    put(text, "salvage", asked.salvage);
-    put_format(text, asked.format);
-    put(text, "progress", asked.progress);
-    put(text, "capture", asked.capture);
+    put_all!(text, asked,
+        Program: program, GivenShort: harts, Given: only, Given: symbols, Flag: rows,
+        Flag: salvage, Layout: format, Flag: progress, Text: capture);
 }
 
 fn put_salvage(text: &mut Case<'_>, asked: &Salvage<'_>) {
     text.put("Salvage(Salvage { ");
-    put_program(text, &asked.program);
-    put(text, "harts", asked.harts);
-    put(text, "only", asked.only);
-    put(text, "symbols", asked.symbols);
-    put(text, "summary", asked.summary);
-    put_format(text, asked.format);
-    put(text, "progress", asked.progress);
-    put(text, "capture", asked.capture);
+    put_all!(text, asked,
+        Program: program, GivenShort: harts, Given: only, Given: symbols, Flag: summary,
+        Layout: format, Flag: progress, Text: capture);
 }
 
 fn put_capture(text: &mut Case<'_>, asked: &Capture<'_>) {
     text.put("Capture(Capture { ");
     put(text, "version", asked.version);
-    put(text, "mode", asked.mode);
-    put(text, "period", asked.period);
-    put(text, "harts", asked.harts);
-    put(text, "number_bits", asked.number_bits);
-    put(text, "skip", asked.skip);
-    put(text, "lines", asked.lines);
+    put_all!(text, asked,
+        Reports: mode, Short: period, GivenShort: harts, GivenShort: number_bits,
+        Flag: skip, Text: lines);
 }
 
 fn put_compare(text: &mut Case<'_>, asked: &Compare<'_>) {
     text.put("Compare(Compare { ");
-    put_program(text, &asked.program);
-    put(text, "harts", asked.harts);
-    put(text, "only", asked.only);
-    put(text, "explain", asked.explain);
-    put(text, "symbols", asked.symbols);
-    put(text, "long", asked.long);
-    put(text, "progress", asked.progress);
-    put(text, "capture", asked.capture);
-    put(text, "logs", asked.logs.as_slice());
+    put_all!(text, asked,
+        Program: program, Short: harts, Given: only, Flag: explain, Given: symbols, Flag: long,
+        Flag: progress, Text: capture, Texts: logs);
 }
 
 fn put_generate(text: &mut Case<'_>, asked: &Generate<'_>) {
-    text.put("Generate(Generate { product: ");
+    text.put("Generate(Generate { ");
     text.put(match asked.product {
-        Product::Image => "Image",
-        Product::Log => "Log",
-        Product::Capture => "Capture",
-        Product::Other => "Other",
+        Product::Image => "product: Image",
+        Product::Log => "product: Log",
+        Product::Capture => "product: Capture",
+        Product::Other => "product: Other",
     });
     put(text, "seed", asked.seed);
     put(text, "mix", asked.mix);
-    put(text, "base", asked.base);
-    put(text, "hart", asked.hart);
-    put(text, "events", asked.events);
-    put(text, "harts", asked.harts);
-    put(text, "messages", asked.messages);
-    put(text, "period", asked.period);
-    put(text, "mode", asked.mode);
+    put_all!(text, asked,
+        Text: base, GivenShort: hart, GivenLong: events, GivenShort: harts, GivenLong: messages,
+        GivenShort: period, Reports: mode);
     put(text, "version", asked.version);
     put(text, "burst", asked.burst);
 }

@@ -1,6 +1,7 @@
 //! What a run had to give, and what it gave.
 
-use std::alloc::{AllocError, Global};
+use cases::Case;
+use std::alloc::Global;
 
 /// A status, what is printed and what is reported.
 pub(crate) type Outcome<'a> = (u64, &'a [u8], &'a [u8]);
@@ -8,67 +9,57 @@ pub(crate) type Outcome<'a> = (u64, &'a [u8], &'a [u8]);
 /// The first thing of a run that is not as it has to be: what was wanted, and what came. Both are empty where all is.
 #[derive(Drop)]
 pub(crate) struct Verdict {
-    pub(crate) wanted: String,
-    pub(crate) came: String,
+    pub(crate) wanted: Case<'static>,
+    pub(crate) came: Case<'static>,
 }
 
 /// Appends bytes: a text as it is displayed for debugging, others in hexadecimal.
-fn push_bytes(text: &mut String, bytes: &[u8]) -> Result<(), AllocError> {
-    if let Ok(utf8) = str::from_utf8(bytes) {
-        return write!(text, "{utf8:?}");
+fn put_bytes(text: &mut Case<'_>, bytes: &[u8]) {
+    match str::from_utf8(bytes) {
+        Ok(utf8) => text.put_debug(utf8),
+        Err(_) => text.put_digits(bytes),
     }
-    for byte in bytes {
-        write!(text, "{byte:02x}")?;
-    }
-    Ok(())
 }
 
 /// Appends an outcome.
-fn push_outcome(text: &mut String, outcome: Outcome<'_>) -> Result<(), AllocError> {
+fn put_outcome(text: &mut Case<'_>, outcome: Outcome<'_>) {
     let (status, written, reported) = outcome;
-    write!(text, "status {status}, printed ")?;
-    push_bytes(text, written)?;
-    text.push_str(", reported ")?;
-    push_bytes(text, reported)
+    text.put_filled("status #, printed ", &[status]);
+    put_bytes(text, written);
+    text.put(", reported ");
+    put_bytes(text, reported);
 }
 
 impl Verdict {
     /// All is as it has to be.
     pub(crate) fn new(alloc: Global) -> Verdict {
         Verdict {
-            wanted: String::new(alloc),
-            came: String::new(alloc),
+            wanted: Case::new(alloc, ""),
+            came: Case::new(alloc, ""),
         }
     }
 
     /// A run that an output ended at one of its calls, or at none where that is 0, has to end so.
-    pub(crate) fn ends(
-        &mut self,
-        call: usize,
-        wanted: Outcome<'_>,
-        came: Outcome<'_>,
-    ) -> Result<(), AllocError> {
-        if wanted == came || !self.wanted.is_empty() {
-            return Ok(());
+    pub(crate) fn ends(&mut self, call: usize, wanted: Outcome<'_>, came: Outcome<'_>) {
+        if wanted == came || !self.wanted.came.is_empty() {
+            return;
         }
-        push_outcome(&mut self.wanted, wanted)?;
+        put_outcome(&mut self.wanted, wanted);
         if call > 0 {
-            write!(self.came, "at call {call} of the output that fails ")?;
+            let call = [call as u64];
+            self.came
+                .put_filled("at call # of the output that fails ", &call);
         }
-        push_outcome(&mut self.came, came)
+        put_outcome(&mut self.came, came);
     }
 
     /// A count of something has to be at least and at most so large.
-    pub(crate) fn counts(
-        &mut self,
-        what: &str,
-        (least, most): (u64, u64),
-        came: u64,
-    ) -> Result<(), AllocError> {
-        if (least <= came && came <= most) || !self.wanted.is_empty() {
-            return Ok(());
+    pub(crate) fn counts(&mut self, what: &str, (least, most): (u64, u64), came: u64) {
+        if (least <= came && came <= most) || !self.wanted.came.is_empty() {
+            return;
         }
-        write!(self.wanted, "{least} to {most} {what}")?;
-        write!(self.came, "{came}")
+        self.wanted.put_filled("# to # ", &[least, most]);
+        self.wanted.put(what);
+        self.came.put_shown(came);
     }
 }

@@ -9,8 +9,8 @@ use message::{Message, NoProgress};
 use payload::{Mode, Payload};
 use retire::Event;
 use salvaging::{
-    Part as Salvage, Reason, Salvaged, SalvagedHart, Treated, Treatment, far_numbers, salvage,
-    treat_watched,
+    FarNumber, FarTreatment, Part as Salvage, Reason, Salvaged, SalvagedHart, Treated, Treatment,
+    far_numbers, salvage, treat_watched,
 };
 use std::mem;
 
@@ -163,10 +163,37 @@ fn put_why(case: &mut Case<'_>, why: Reason) {
     case.put(")");
 }
 
-/// Appends a part of what is salvaged, and returns the place in the log after it.
+/// Appends a far number, and what is done with its message where that is not decoded.
+fn put_far(case: &mut Case<'_>, far: FarNumber) {
+    case.put_filled("far #@#", &[far.number, far.place as u64]);
+    match far.treatment {
+        FarTreatment::Taken => {}
+        FarTreatment::Passed => case.put_word("passed"),
+        FarTreatment::Bad => case.put_word("bad"),
+    }
+}
+
+/// Appends what is reported of the gap at this place among those of a hart, after so many far numbers: how many numbers are
+/// missing, or the next far number. Returns how many far numbers there are then.
+fn put_gap(case: &mut Case<'_>, hart: &SalvagedHart, at: usize, before: usize) -> usize {
+    match hart.gaps.as_slice().get(at) {
+        Some(missing) if *missing > 0 => {
+            case.put_filled("gap #", &[*missing]);
+            before
+        }
+        _ => {
+            if let Some(far) = hart.far.as_slice().get(before) {
+                put_far(case, *far);
+            }
+            before.saturating_add(1)
+        }
+    }
+}
+
+/// Appends a part of what is salvaged but a gap, and returns the place in the log after it.
 fn put_part(case: &mut Case<'_>, log: &[Event], part: &Salvage, from: usize) -> usize {
     match part {
-        Salvage::Gap(lost) => case.put_filled("gap #", &[*lost]),
+        Salvage::Gap(_) => {}
         Salvage::Stretch {
             first,
             last,
@@ -205,8 +232,14 @@ fn put_count(case: &mut Case<'_>, kind: &str, count: u64) {
 /// many messages are copies and late, and whether the hart is closed.
 fn put_hart(case: &mut Case<'_>, log: &[Event], hart: &SalvagedHart) {
     let mut from = 0;
+    let mut gaps: usize = 0;
+    let mut far = 0;
     for part in hart.parts.as_slice() {
         case.put_word("");
+        if let Salvage::Gap(_) = part {
+            far = put_gap(case, hart, gaps, far);
+            gaps = gaps.saturating_add(1);
+        }
         from = put_part(case, log, part, from);
     }
     put_count(case, "copies", hart.copies as u64);
@@ -263,6 +296,9 @@ fn messages_drawn(case: &mut Case<'_>, payloads: &[Payload]) -> Vec<Message> {
 
 /// Appends what is done with a message.
 fn put_treated(case: &mut Case<'_>, treated: &Treated) {
+    if treated.far {
+        case.put_word("far");
+    }
     if treated.late {
         case.put_word("late");
     }

@@ -14,8 +14,9 @@ use Rattle.receiver.specs.Received.{Received}
 use Rattle.captures.specs.Decoded.{StopsOf}
 use Rattle.captures.specs.declared.outcome.CaptureFault.{CaptureFault}
 
--- A receiver accepted those of these harts among the messages with which the bytes begin, and holds what they decode to.
--- None of them opens a trace in another mode than the announced one, if one is announced. Receiving stops before the rest.
+-- A receiver accepted those of these harts among the messages with which the bytes begin, and holds what they decode
+-- to. None of them opens a trace in another mode than the announced one, if one is announced. Receiving stops before
+-- the rest.
 pub record HasReceivedUpTo (range : HartRange) (words : Words) (harts : ℕ) (announced : Option Mode) (bytes : List ℕ)
     (received : Received) (stop : Option (ℕ × CaptureFault)) : Type 0 where
   pub messages : List Message

@@ -4,13 +4,15 @@ use Rattle.std.specs.Prelude.{map, option_map, slice_get}
 use Rattle.captures.specs.declared.outcome.CaptureFault.{CaptureFault}
 use Rattle.captures.specs.steps.Reading.{AreReadUpTo}
 use Rattle.listing.specs.Placed.{PlacedMessage, placed}
+use Rattle.message.specs.Capture.{capture}
+use Rattle.message.specs.Cut.{IsMessage}
 use Rattle.message.specs.declared.fault.MessageFault.{MessageFault}
 use Rattle.message.specs.declared.message.Message.{Message}
 use Rattle.rvclass.specs.Fetch.{words_of}
 use Rattle.rvclass.specs.Words.{Words}
 use Rattle.comparing.specs.Counts.{before_stop}
 use Rattle.comparing.specs.Explained.{is_whole_hart}
-use Rattle.comparing.specs.Sources.{own_placed, source_message}
+use Rattle.comparing.specs.Sources.{EndsRefused, own_placed, source_message}
 use Rattle.comparing.specs.declared.explained.ExplainedHart.{ExplainedHart}
 use Rattle.comparing.specs.declared.source.SourceMessage.{SourceMessage}
 use Rattle.comparing.specs.declared.sourcing.Followed.{Followed}
@@ -46,6 +48,17 @@ pub record IsFollowedOn (what : Followed) (at : SourceMessage) (message : Messag
       → IsFollowed (words_of what.program.now) placed before
       → IsFollowed (words_of what.program.now) (placed ++ one ∷ []) after
 
+-- Decoding the message's hart, which has a trail, does not go on with the message.
+pub record IsRefusedAt (what : Followed) (message : Message) (old : List Trail) : Type 0 where
+  pub place : ℕ
+  pub trail : Trail
+  pub hart_is : what.first + place ≡ message.hart
+  pub here : slice_get old place ≡ Some trail
+  pub not_whole : is_whole_hart trail.hart ≡ false
+  pub refused : (own : List PlacedMessage) (one : PlacedMessage) → one.message ≡ message
+      → IsFollowed (words_of what.program.now) own trail
+      → EndsRefused (words_of what.program.now) (own ++ one ∷ []) trail.hart.row
+
 -- The message at which decoding stops, where this one of a hart comes next.
 abbrev pub stopped_after : Option (ℕ × CaptureFault) → SourceMessage → ℕ → Option StopMessage → Option StopMessage
 stopped_after None at hart before = before
@@ -71,6 +84,21 @@ pub record AreFollowedUpTo (what : Followed) (bytes : List ℕ) (old new : List 
   pub stopped_is : stopped ≡ stopped_in what.stop (placed 0 what.offset messages)
   pub followed : AreFollowed (words_of what.program.now) what.offset [] old → AreNumberedFrom what.first old
       → AreFollowed (words_of what.program.now) what.offset (before_stop what.stop messages) new
+
+-- Decoding a hart that has a trail does not go on with the last of the messages with which some bytes begin. All of them
+-- come before that at which decoding stops.
+pub record IsRefusedUpTo (what : Followed) (bytes : List ℕ) (old : List Trail) : Type 0 where
+  pub messages : List Message
+  pub rest : List ℕ
+  pub ranges : All IsMessage messages
+  pub begins : bytes ≡ capture messages ++ rest
+  pub early : before_stop what.stop messages ≡ messages
+  pub place : ℕ
+  pub hart : ExplainedHart
+  pub here : slice_get (harts_of old) place ≡ Some hart
+  pub not_whole : is_whole_hart hart ≡ false
+  pub refused : AreFollowed (words_of what.program.now) what.offset [] old → AreNumberedFrom what.first old
+      → EndsRefused (words_of what.program.now) (own_placed hart.line.hart what.offset messages) hart.row
 
 -- The message at which decoding stops, and why, if it is of this hart.
 abbrev pub own_stop_by : Option StopMessage → ℕ → Option (SourceMessage × CaptureFault)

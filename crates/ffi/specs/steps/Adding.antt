@@ -1,5 +1,5 @@
 -- Pieces that are added to a program, one after the other.
-use Rattle.std.specs.Prelude.{◌≡◌, ◌≤◌, ◌⊎◌, ◌++◌, List, Ok, Err, IsOk, length}
+use Rattle.std.specs.Prelude.{◌≡◌, ◌≤◌, ◌++◌, List, Ok, Err, IsOk, length}
 use Rattle.rvclass.specs.Image.{Image}
 use Rattle.ffi.specs.Images.{Judged, with_pieces}
 use Rattle.ffi.specs.declared.fault.ImageFault.TheVariants.{Memory}
@@ -12,7 +12,3 @@ pub data AreAdded (program : Image) (pieces : List ImagePiece) (image : Judged) 
   NoMemory : (front rest : List ImagePiece) → pieces ≡ front ++ rest → 1 ≤ length front
       → IsOk (with_pieces (Ok program) front) → image ≡ Err Memory
       → AreAdded program pieces image
-
--- A program that owns its bytes is that of an image, or the same is wrong; or an allocation failed.
-abbrev pub IsCopied : Judged → Judged → Type 0
-IsCopied image copied = (copied ≡ image) ⊎ (copied ≡ Err Memory)

@@ -1,32 +1,25 @@
--- The lines of harts that are compared with the legal logs of texts.
-use Rattle.std.specs.Prelude.{ℕ, ◌≡◌, is_none, Bool, List, Option, length}
+-- Harts that are compared with logs.
+use Rattle.std.specs.Prelude.{ℕ, ◌≡◌, false, is_none, Bool, List, None, Option, length}
 use Rattle.bench.specs.Got.{Got}
 use Rattle.captures.specs.declared.outcome.CaptureFault.{CaptureFault}
-use Rattle.comparing.specs.Lines.{are_whole_lines, line_of, lines_of, lines_text}
-use Rattle.bench.specs.declared.hart_line.ComparedHart.{ComparedHart}
+use Rattle.comparing.specs.Explained.{are_whole_sourced, explained_harts, explained_text}
+use Rattle.comparing.specs.Sourced.{AreSourced}
+use Rattle.comparing.specs.declared.explained.ExplainedHart.{ExplainedHart}
+use Rattle.comparing.specs.declared.sourcing.SourcedHart.{SourcedHart}
 use Rattle.legalpath.specs.ProgramLog.{ProgramLog}
-use Rattle.rvclass.specs.Image.{Image}
+use Rattle.rvclass.specs.Words.{Words}
 use Rattle.ffi.specs.Compared.{compare_end}
-use Rattle.ffi.specs.Encoded.{AreLogs, IsLegalText}
 use Rattle.ffi.specs.declared.texts.Written.{Written}
 
--- The text is that of a legal log, and this is the line of a hart by it.
-pub record IsComparedText (program : Image) (text : Option (List ℕ)) (hart : ℕ) (got : Got) (line : ComparedHart)
-    : Type 0 where
-  pub log : ProgramLog
-  pub legal : IsLegalText program text log
-  pub is : line ≡ line_of hart got log
-
--- The texts are those of legal logs, as many as there are harts, and these are the lines of the harts.
-pub record AreCompared (program : Image) (bytes ends : List ℕ) (gots : List Got) (lines : List ComparedHart)
-    : Type 0 where
-  pub logs : List ProgramLog
-  pub are : AreLogs program bytes 0 ends logs
+-- There are as many logs as harts, and this is said of the harts by them.
+pub record AreCompared (gots : List Got) (said : List ExplainedHart) (logs : List ProgramLog) : Type 0 where
   pub many : length logs ≡ length gots
-  pub each : lines ≡ lines_of 0 gots logs
+  pub each : said ≡ explained_harts 0 gots logs
 
--- The report of these lines is written, and how it ends.
-pub record Writes (lines : List ComparedHart) (closed : List Bool) (stop : Option (ℕ × CaptureFault)) (found : Written)
-    : Type 0 where
-  pub written : found.text.items ≡ lines_text (is_none stop) lines
-  pub ended : found.end ≡ compare_end closed stop (are_whole_lines (is_none stop) lines)
+-- The report of what is said of harts is written, with the messages that rows come from, and how it ends.
+pub record Writes (words : Words) (capture : List ℕ) (said : List ExplainedHart) (closed : List Bool)
+    (stop : Option (ℕ × CaptureFault)) (found : Written) : Type 0 where
+  pub sourced : List SourcedHart
+  pub from : AreSourced words capture stop said sourced
+  pub written : found.text.items ≡ explained_text false None stop sourced
+  pub ended : found.end ≡ compare_end closed stop (are_whole_sourced (is_none stop) sourced)

@@ -4,12 +4,11 @@ use Rattle.std.specs.Io.KnownBytes.{Appends, Keeps, prepend_known}
 use Rattle.std.specs.Str.Lines.{lines}
 use Rattle.output.specs.Begun.{AppendsBeginning}
 use Rattle.captures.specs.Capture.{header_with}
-use Rattle.captures.specs.Pass.{IsPassed, Pass, no_lines, pass}
-use Rattle.captures.specs.Streamed.{known_form, skips_of, stop_of, streamed_bytes, streamed_faults}
+use Rattle.captures.specs.Pass.{IsPassed, pass_bytes, text_pass}
+use Rattle.captures.specs.Streamed.{skips_of, stop_of, streamed_bytes, streamed_faults}
 use Rattle.captures.specs.Versions.{start_bytes}
 use Rattle.captures.specs.declared.line_fault.LinesFault.{LinesFault}
 use Rattle.captures.specs.declared.line_settings.Settings.{Settings}
-use Rattle.message.specs.Capture.{capture}
 use Rattle.log_streams.specs.Known.{Absent, Content, Known, Present, Unknown}
 use Rattle.command_inputs.specs.Begun.{IsCutOf}
 use Rattle.command_inputs.specs.Printed.{PrintsUnlessDenied}
@@ -26,19 +25,10 @@ IsReadTo Unknown given left = Unit {0}
 IsReadTo Absent given left = ⊥
 IsReadTo (Present text) given left = Keeps (Some text) (prepend_known given left)
 
--- The lines of a text are passed from the first on.
-abbrev pub stream_pass : Settings → Capture → List ℕ → Pass
-stream_pass settings asked text = pass settings asked.skip (no_lines (known_form settings.numbers)) (lines text)
-
--- What a capture begins with, and the messages of the lines of a text that are passed.
-abbrev pub pass_bytes : Settings → Capture → List ℕ → List ℕ
-pass_bytes settings asked text =
-    start_bytes settings.version (header_with settings 1) ++ capture (stream_pass settings asked text).messages
-
 -- All lines of a text were passed, and their messages appended.
 abbrev pub IsAllPassed : Capture → Settings → List ℕ → Taken → Option (List ℕ) → Option (List ℕ) → Type 0
 IsAllPassed asked settings text taken old new =
-    IsPassed {U = Unit {0}} (start_bytes settings.version (header_with settings 1)) (stream_pass settings asked text)
+    IsPassed {U = Unit {0}} (start_bytes settings.version (header_with settings 1)) (text_pass settings asked.skip text)
     (Ok tt) taken.passed old new
 
 -- Of these bytes, which were given, the lines are passed but for what is held.
@@ -52,13 +42,13 @@ pub record HasTaken (asked : Capture) (settings : Settings) (given : List ℕ) (
 -- The fault is that allocation or the output failed, or that of a line.
 abbrev pub IsStop : Capture → Settings → List ℕ → Fault → Option (List ℕ) → Option (List ℕ) → Type 0
 IsStop asked settings text why old new = (why ≡ fault.Memory) ⊎ ((why ≡ fault.Output)
-    ⊎ ((own : LinesFault) × (why ≡ lines_fault asked.lines own) × ((stream_pass settings asked text).stop ≡ Some own)
-    × Appends old new (pass_bytes settings asked text)))
+    ⊎ ((own : LinesFault) × (why ≡ lines_fault asked.lines own) × ((text_pass settings asked.skip text).stop ≡ Some own)
+    × Appends old new (pass_bytes settings asked.skip text)))
 
 -- A text was not passed to its end.
 pub record HasStopped (asked : Capture) (settings : Settings) (text : List ℕ) (why : Fault) (old new : Option (List ℕ))
     : Type 0 where
-  pub begun : AppendsBeginning (pass_bytes settings asked text) old new
+  pub begun : AppendsBeginning (pass_bytes settings asked.skip text) old new
   pub stop : IsStop asked settings text why old new
 
 -- More bytes were given: their lines are passed but for what is held, or it ended at this fault, whatever follows.

@@ -55,6 +55,10 @@ Rise [] = Unit {0}
 Rise (first ∷ arrivals) =
     All (λ (other : Arrival). first.message.number < other.message.number) arrivals × Rise arrivals
 
+-- They are a hart's messages with their places, in the order in which they came.
+abbrev pub HavePlaces : List Arrival → Type 0
+HavePlaces arrivals = (messages : List Message) × (arrivals ≡ placed_from 0 messages)
+
 -- Their numbers are those that a hart may have.
 abbrev pub HaveNumbers : List Arrival → Type 0
 HaveNumbers arrivals = All (λ (one : Arrival). one.message.number < end_of_numbers) arrivals

@@ -1,5 +1,7 @@
 -- What a verdict on a number says.
 use Rattle.std.specs.Prelude.{Bool, true, false}
+use Rattle.salvaging.specs.declared.far_number.FarTreatment.{FarTreatment}
+use Rattle.salvaging.specs.declared.far_number.FarTreatment.TheVariants as far
 use Rattle.salvaging.specs.declared.mark.Verdict.{Verdict}
 use Rattle.salvaging.specs.declared.mark.Verdict.TheVariants as verdict
 use Rattle.salvaging.specs.declared.treatment.Treatment.{Treatment}
@@ -33,3 +35,9 @@ abbrev pub is_good : Verdict → Bool
 is_good verdict.Taken = true
 is_good verdict.Passed = true
 is_good other = false
+
+-- What is done with the message of a far number on which this is the verdict.
+abbrev pub far_verdict : Verdict → FarTreatment
+far_verdict verdict.Taken = far.Taken
+far_verdict verdict.Passed = far.Passed
+far_verdict other = far.Bad

@@ -58,14 +58,14 @@ pub(crate) fn is_made<R: Abort + AllocGlobal>(rt: &R, size: usize) -> bool {
 
 #[test]
 fn room_is_refused_at_making_alone(rt: HostRuntime) {
-    same_at(&rt, "little memory", is_made(&rt, 64), false);
-    same_at(&rt, "ample memory", is_made(&rt, 8192), true);
+    let found = (is_made(&rt, 64), is_made(&rt, 8192));
+    same_at(&rt, "little memory, and ample", found, (false, true));
 }
 
 #[test]
 fn room_is_refused_to_a_channel(rt: HostRuntime) {
     let heap = LocalHeap::new(rt.alloc(), 64).expect(&rt, "memory");
     let fault = open(&heap, 2, 4).err();
-    same_at(&rt, "the fault", fault, Some(OpenFault::Memory));
-    same_at(&rt, "the heap", heap.used(), 0);
+    let wanted = (Some(OpenFault::Memory), 0);
+    same_at(&rt, "the fault, and the heap", (fault, heap.used()), wanted);
 }

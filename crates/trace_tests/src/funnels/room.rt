@@ -1,6 +1,6 @@
 //! A sender waits while the channel is full.
 
-use super::made::{ENDED, Fate, OPEN, comes, fate_of};
+use super::made::{ENDED, Fate, HANDED_BACK, OPEN, SENT, comes, fate_of};
 use crate::same::same_at;
 use funnel::{Outlet, Port, open};
 use std::process::Abort;
@@ -47,7 +47,7 @@ fn stays_down<R: Abort + Clock>(rt: &R, flag: &AtomicBool) {
 
 // Lets a waiting sender go on: takes a message where its payload is to be sent, or else drops the outlet.
 fn let_go<R: Abort + Wait>(rt: &R, mut outlet: Outlet, wanted: Fate) -> Option<Outlet> {
-    if wanted == Fate::HandedBack {
+    if wanted == HANDED_BACK {
         return None;
     }
     comes(rt, &mut outlet, 0, 0, OPEN);
@@ -87,7 +87,7 @@ fn is_held<R: Abort + AllocGlobal + Clock + Threads + Wait + Sync>(
 /// One place is enough for a sender that waits. Where the outlet is dropped, it gets its payload back.
 #[test]
 fn a_full_channel_holds_a_sender(rt: HostRuntime) {
-    for (capacity, wanted) in [(1, Fate::Sent), (8, Fate::Sent), (8, Fate::HandedBack)] {
+    for (capacity, wanted) in [(1, SENT), (8, SENT), (8, HANDED_BACK)] {
         is_held(&rt, capacity, wanted);
     }
 }

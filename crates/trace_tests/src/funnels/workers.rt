@@ -196,11 +196,11 @@ pub(crate) fn is_settled<R: Abort + AllocGlobal + Threads + Wait + Sync>(
 
 // How many harts send, the capacity, how many payloads each hart sends, and how many messages are left: those that fill
 // the channel; none, where each of the two receipts says that 1,000 were sent and 1,000 taken; those that fill it, where
-// a port sends more than 100,000.
+// a port sends more than 131,072, and more than in any other test.
 const WORKED: [(u16, u32, u64, u64); 3] = [
     (2, 1, 1_000, 1),
     (2, 1, 1_000, 0),
-    (1, 1_024, 100_001, 1_024),
+    (1, 1_024, 131_074, 1_024),
 ];
 
 #[test]

@@ -11,19 +11,19 @@ use std::process::Abort;
 fn one_request_is_refused(rt: HostRuntime) {
     let heap = Refusing::new(rt.alloc(), 1);
     for place in 0..3u64 {
-        same_at(&rt, place, heap.requests(), place);
+        let before = heap.requests();
         let list: Result<Vec<u8, &Refusing<Global>>, _> = Vec::with_capacity(&heap, 1);
-        same_at(&rt, place, list.is_ok(), place != 1);
-        same_at(&rt, place, heap.has_refused(), place > 0);
+        let found = (before, list.is_ok(), heap.has_refused());
+        same_at(&rt, place, found, (place, place != 1, place > 0));
     }
 }
 
 /// By which call a log is read.
-#[derive(Clone, Copy)]
-enum By {
-    Reader,
-    Slice,
-}
+type By = &'static str;
+
+const READER: By = "reader";
+
+const SLICE: By = "slice";
 
 /// The header of a log, a row, and 32 rows after it with numbers of the same length; and the same with short rows.
 const LONG: &str = r#""addr,itype,priv,cause,tval\n80000000,0,3,,\n\[32*80000002,0,3,,]""#;
@@ -47,12 +47,12 @@ const SHORT_ROWS: &str = "80000000,0,3,, 32*0,0,3,,";
 /// list asks once more: at a plain row, or at one that `csv` reads since it reads the first row. `csv` takes its memory
 /// from `Global` alone.
 const LOGS: [(By, &str, &str, &str); 6] = [
-    (By::Reader, LONG, LONG_ROWS, "mmmmm"),
-    (By::Reader, QUOTED_SHORT, SHORT_ROWS, "mmmmm"),
-    (By::Slice, LONG, LONG_ROWS, "e"),
-    (By::Slice, SHORT, SHORT_ROWS, "em"),
-    (By::Slice, QUOTED_LONG, LONG_ROWS, "e"),
-    (By::Slice, QUOTED_SHORT, SHORT_ROWS, "em"),
+    (READER, LONG, LONG_ROWS, "mmmmm"),
+    (READER, QUOTED_SHORT, SHORT_ROWS, "mmmmm"),
+    (SLICE, LONG, LONG_ROWS, "e"),
+    (SLICE, SHORT, SHORT_ROWS, "em"),
+    (SLICE, QUOTED_LONG, LONG_ROWS, "e"),
+    (SLICE, QUOTED_SHORT, SHORT_ROWS, "em"),
 ];
 
 /// What is read of a text, with memory of a heap.
@@ -62,9 +62,10 @@ fn read_by<'h, R: AllocGlobal>(
     heap: &'h Refusing<Global>,
     text: &[u8],
 ) -> Result<Vec<Event, &'h Refusing<Global>>, LogFault> {
-    match by {
-        By::Reader => read_log(heap, rt.alloc(), text),
-        By::Slice => read_log_from_slice(heap, rt.alloc(), text),
+    if by == READER {
+        read_log(heap, rt.alloc(), text)
+    } else {
+        read_log_from_slice(heap, rt.alloc(), text)
     }
 }
 
@@ -81,11 +82,16 @@ fn each_request<R: Abort + AllocGlobal>(
         let heap = Refusing::new(rt.alloc(), place as u64);
         let read = read_by(rt, by, &heap, text);
         let is_memory = ends.get(place) == Some(&b'm');
-        same_at(rt, (log, place), heap.has_refused(), place < ends.len());
-        same_at(rt, (log, place), read.is_err(), is_memory);
+        let refused = heap.has_refused() == (place < ends.len());
         match read {
-            Ok(events) => same_at(rt, (log, place), events.as_slice(), want),
-            Err(fault) => same_at(rt, (log, place), fault, LogFault::Memory),
+            Ok(events) => {
+                let found = (events.as_slice(), is_memory, refused);
+                same_at(rt, (log, place), found, (want, false, true));
+            }
+            Err(fault) => {
+                let found = (fault, is_memory, refused);
+                same_at(rt, (log, place), found, (LogFault::Memory, true, true));
+            }
         }
     }
 }
@@ -111,8 +117,7 @@ fn each_request_of_a_writing(rt: HostRuntime) {
         } else {
             (None, text.as_slice())
         };
-        same_at(&rt, place, fault, fault_wanted);
-        same_at(&rt, place, sink.as_slice(), wanted);
-        same_at(&rt, place, heap.has_refused(), place == 0);
+        let found = (fault, sink.as_slice(), heap.has_refused());
+        same_at(&rt, place, found, (fault_wanted, wanted, place == 0));
     }
 }

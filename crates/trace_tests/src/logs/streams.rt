@@ -47,32 +47,34 @@ fn device_fails_at_each_call(rt: HostRuntime) {
         };
         // The text has 107,846 bytes: eleven calls give them, and the twelfth finds the end.
         let found = read_in_pieces(&rt, ReaderSource::new(source));
-        same_at(&rt, calls, found.is_ok(), calls >= 12);
         match found {
-            Ok(events) => same_at(&rt, calls, events == log, true),
-            Err(fault) => same_at(&rt, calls, fault, LogFault::Read),
+            Ok(events) => same_at(&rt, calls, (events == log, calls >= 12), (true, true)),
+            Err(fault) => same_at(&rt, calls, (fault, calls >= 12), (LogFault::Read, false)),
         }
+    }
+}
+
+/// Ends the test unless a list in so many bytes has memory for so many pieces of a text, and for no more.
+fn has_memory_for<R: Abort + AllocGlobal>(rt: &R, text: &[u8], bytes: usize, pieces: usize) {
+    let alloc = rt.alloc();
+    let heap = LocalHeap::new(alloc, bytes).expect(rt, "memory");
+    let buffer = PieceBuffer::new(alloc).expect(rt, "memory");
+    let mut reader = LogReader::new(buffer, alloc, MOST_ROWS, ReaderSource::new(text));
+    let mut events = Vec::new(&heap);
+    for piece in 0..=pieces {
+        let wanted = if piece < pieces {
+            Ok(true)
+        } else {
+            Err(LogFault::Memory)
+        };
+        same_at(rt, (bytes, piece), reader.next(&mut events), wanted);
     }
 }
 
 /// The list has no memory for the first piece, or for a later one.
 #[test]
 fn memory_for_events_is_refused(rt: HostRuntime) {
-    let alloc = rt.alloc();
     let text = bytes_in(&rt, MANY_ROWS);
-    for (bytes, pieces) in [(0, 0), (400_000, 2)] {
-        let heap = LocalHeap::new(alloc, bytes).expect(&rt, "memory");
-        let buffer = PieceBuffer::new(alloc).expect(&rt, "memory");
-        let mut reader = LogReader::new(
-            buffer,
-            alloc,
-            MOST_ROWS,
-            ReaderSource::new(text.as_slice()),
-        );
-        let mut events = Vec::new(&heap);
-        for _piece in 0..pieces {
-            same_at(&rt, (bytes, "before"), reader.next(&mut events), Ok(true));
-        }
-        same_at(&rt, bytes, reader.next(&mut events), Err(LogFault::Memory));
-    }
+    has_memory_for(&rt, &text, 0, 0);
+    has_memory_for(&rt, &text, 400_000, 2);
 }

@@ -54,9 +54,9 @@ pub(crate) fn are_refused(
     let length = length.min(16);
     let mut reader = reader_of(&WHOLE[..length], calls, kind);
     let place = (kind, length, calls);
-    same_at(rt, place, read_message(&mut reader), Err(fault));
     let start = read_start(&mut reader_of(&HEADER[..length], calls, kind));
-    same_at(rt, place, start.err(), Some(fault));
+    let found = (read_message(&mut reader), start.err());
+    same_at(rt, place, found, (Err(fault), Some(fault)));
 }
 
 /// Ends the test unless the message and the header are read by readers that fail at one call, and reading after the
@@ -69,11 +69,11 @@ pub(crate) fn are_read(
 ) {
     let mut reader = reader_of(&WHOLE, calls, kind);
     let sent = message(rt, 7, 9, &[0x73, 0, 0, 0, 0x20]);
-    same_at(rt, (kind, calls), read_message(&mut reader), Ok(Some(sent)));
-    same_at(rt, (kind, calls), read_message(&mut reader), behind);
+    let read = (read_message(&mut reader), read_message(&mut reader));
     let start = read_start(&mut reader_of(&HEADER, calls, kind));
     let is_start = start == Ok(Start::Version2(SETTINGS));
-    same_at(rt, (kind, calls), is_start, true);
+    let wanted = ((Ok(Some(sent)), behind), true);
+    same_at(rt, (kind, calls), (read, is_start), wanted);
 }
 
 /// Readers of one byte a call, which fail at each place, and where that is after all that is read.
@@ -97,12 +97,14 @@ pub(crate) fn are_written<R: Abort + AllocGlobal>(
 ) {
     let length = calls.min(16);
     let sent = message(rt, 7, 9, &[0x73, 0, 0, 0, 0x20]);
-    let mut writer = writer_of(rt, calls);
-    same_at(rt, calls, write_message(&mut writer, &sent), end);
-    same_at(rt, calls, writer.held.as_slice(), &WHOLE[..length]);
-    let mut writer = writer_of(rt, calls);
-    same_at(rt, calls, write_header(&mut writer, &SETTINGS), end);
-    same_at(rt, calls, writer.held.as_slice(), &HEADER[..length]);
+    let (mut message, mut header) = (writer_of(rt, calls), writer_of(rt, calls));
+    let ends = (
+        write_message(&mut message, &sent),
+        write_header(&mut header, &SETTINGS),
+    );
+    let held = (message.held.as_slice(), header.held.as_slice());
+    let wanted = ((end, end), (&WHOLE[..length], &HEADER[..length]));
+    same_at(rt, calls, (ends, held), wanted);
 }
 
 #[test]

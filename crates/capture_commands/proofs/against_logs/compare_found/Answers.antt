@@ -6,7 +6,7 @@ use Rattle.bench.specs.Got.{Got}
 use Rattle.command_inputs.proofs.Runs.{ends_silently}
 use Rattle.comparing.proofs.SomeHarts.{of_length}
 use Rattle.comparing.specs.Compared.{of_harts}
-use Rattle.comparing.specs.Sourced.{AreNumbered, AreSourced}
+use Rattle.comparing.specs.Sourced.{AreNumbered, AreSourced, StopsEarly}
 use Rattle.rvclass.specs.Fetch.{words_of}
 use Rattle.log_streams.specs.Known.{Content}
 use Rattle.capture_commands.specs.Comparing.{CanCompareCapture, ComparesCapture}
@@ -15,7 +15,7 @@ use Rattle.capture_commands.specs.Comparison.{count_at, rows_of}
 use Rattle.capture_commands.specs.steps.Surveyed.{gots_in}
 use Rattle.capture_commands.specs.steps.Lines.{AreLinesOfLogs}
 use Rattle.capture_commands.specs.steps.Inputs.{names_in}
-use Rattle.capture_commands.proofs.ComparedRuns.{as_many, count_ends, lines_numbered}
+use Rattle.capture_commands.proofs.ComparedRuns.{as_many, count_ends, lines_never_early, lines_numbered}
 use Rattle.capture_commands.proofs.ComparedRuns.{logs_end, report_cut, report_printed}
 use Rattle.capture_commands.proofs.FoundHarts.{gots_found}
 use Rattle.capture_commands.proofs.against_logs.compare_found.Goals.{After-check_count, After-write_report}
@@ -78,13 +78,24 @@ returns-in_err-lines-clause-printed g c =
     c.requires.found.got c.requires.no_memory tt (sym c.in_ok-check_count.was ∙ counted g at) why
     c.from_residual-in_err-lines.result (g.O.Write.contents c.args.out.now) is c.in_err-lines.ensures.fault
 
-pub sourced_lines-requires : goal.sourced_lines-requires
-sourced_lines-requires g c =
+pub sourced_lines-requires-clause-numbered : goal.sourced_lines-requires-clause-numbered
+sourced_lines-requires-clause-numbered g c =
+    let at = (goal.at.sourced_lines-requires-clause-numbered g c).After-check_count in
     subst (AreNumbered c.args.input.now.only.first) (sym c.as_slice-said.ensures.value)
-    (lines_numbered (rows_of c.args.asked.now.long) (g.F.Files.content c.args.files.now) c.args.input.now.program.now
-    c.args.asked.now.logs.items c.args.input.now.only.first
-    (gots_in c.args.input.now.only c.requires.found.lists c.args.found.now) c.in_ok-lines.lines.items
+    (lines_numbered (rows_of c.args.asked.now.long) (content g at) c.args.input.now.program.now c.args.asked.now.logs.items
+    c.args.input.now.only.first (gots g at) c.in_ok-lines.lines.items
     (c.in_ok-lines.ensures.lines c.requires.found.lists c.requires.found.are))
+
+pub sourced_lines-requires-clause-never : goal.sourced_lines-requires-clause-never
+sourced_lines-requires-clause-never g c =
+    let at = (goal.at.sourced_lines-requires-clause-never g c).After-check_count in
+    let words = words_of c.args.input.now.program.now in
+    subst (λ lines. ¬ StopsEarly words c.args.input.now.bytes.now c.args.found.now.stop lines)
+    (sym c.as_slice-said.ensures.value)
+    (lines_never_early (rows_of c.args.asked.now.long) (content g at) c.args.input.now.program.now
+    c.args.asked.now.logs.items c.args.input.now.only c.args.asked.now.harts c.args.input.now.bytes.now (gots g at)
+    c.args.found.now.stop c.in_ok-lines.lines.items (c.in_ok-lines.ensures.lines c.requires.found.lists c.requires.found.are)
+    c.requires.found.got)
 
 pub returns-in_err-sourced-clause-printed : goal.returns-in_err-sourced-clause-printed
 returns-in_err-sourced-clause-printed g c =

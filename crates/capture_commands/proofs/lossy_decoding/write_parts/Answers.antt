@@ -1,7 +1,7 @@
 -- The prover does not part a text at the part that is not written: the lemmas on it are handed to it.
 use Rattle.losses.specs.PartsIn.{part_of}
 use Rattle.capture_commands.specs.Pieces.{part_text}
-use Rattle.salvage_reports.proofs.PartTexts.{part_begun, part_written}
+use Rattle.capture_commands.proofs.PartTexts.{part_begun, part_written}
 use Rattle.capture_commands.proofs.lossy_decoding.write_parts.Goals as goal
 
 pub returns-in_err-write_part-clause-begun : goal.returns-in_err-write_part-clause-begun

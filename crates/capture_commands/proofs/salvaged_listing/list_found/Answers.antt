@@ -4,8 +4,9 @@ use Rattle.std.proofs.KnownBytes.{Keeps-refl}
 use Rattle.std.specs.Io.KnownBytes.{Appends}
 use Rattle.output.specs.Begun.{AppendsBeginning}
 use Rattle.command_inputs.proofs.Runs.{appends-keeps, prints}
+use Rattle.listing.specs.declared.form.Form.{Form}
 use Rattle.capture_commands.specs.Listed.{CanTreat}
-use Rattle.capture_commands.specs.ListedFormats.{treated_in}
+use Rattle.capture_commands.specs.ListedFormats.{form_of, treated_in}
 use Rattle.capture_commands.specs.ListedSalvaged.{TreatsHarts, messages_of}
 use Rattle.capture_commands.specs.steps.Inputs.{names_in}
 use Rattle.salvage_reports.specs.HartRows.{in_rows}
@@ -20,19 +21,25 @@ module _ (g : _) (c : After-write_treated_in g) where
   abbrev mid : Option (List ℕ)
   mid = g.O.Write.contents c.write_treated_in.new.sink
 
+  abbrev form : Form
+  form = form_of c.args.asked.now.format c.args.asked.now.rows
+
   abbrev text : List ℕ
   text =
       treated_in c.args.asked.now.format c.args.asked.now.rows c.args.input.now.only (names_in c.args.input.now)
-      c.args.found.now.header c.args.input.now.bytes.now (in_rows
+      c.args.found.now.header c.args.input.now.bytes.now (in_rows form
       (messages_of c.args.input.now.only c.args.found.now.header c.args.input.now.bytes.now) c.in_ok-treated.treated.items)
 
   -- The rows are those of what is done with the messages, and both buffers are handed over as slices.
   rows_are : c.as_slice-2.result.now
-      ≡ in_rows (messages_of c.args.input.now.only c.args.found.now.header c.args.input.now.bytes.now)
+      ≡ in_rows form (messages_of c.args.input.now.only c.args.found.now.header c.args.input.now.bytes.now)
       c.in_ok-treated.treated.items
   rows_are =
       c.as_slice-2.ensures.value ∙ c.in_ok-rows.ensures
-      ∙ ap (in_rows (messages_of c.args.input.now.only c.args.found.now.header c.args.input.now.bytes.now))
+      ∙ ap (λ (one : Form). in_rows one
+      (messages_of c.args.input.now.only c.args.found.now.header c.args.input.now.bytes.now) c.as_slice.result.now)
+      c.form_of-form.ensures
+      ∙ ap (in_rows form (messages_of c.args.input.now.only c.args.found.now.header c.args.input.now.bytes.now))
       c.as_slice.ensures.value
 
   begun : AppendsBeginning text old mid
@@ -76,7 +83,7 @@ returns-clause-printed g c =
     let mid = g.O.Write.contents c.write_treated_in.new.sink in
     let new = g.O.Write.contents c.flush.new.self in
     let text = treated_in c.args.asked.now.format c.args.asked.now.rows only symbols found.header bytes
-    (in_rows (messages_of only found.header bytes) treated) in
+    (in_rows (form_of c.args.asked.now.format c.args.asked.now.rows) (messages_of only found.header bytes) treated) in
     prints (TreatsHarts c.args.asked.now.format c.args.asked.now.rows only c.args.asked.now.harts c.args.input.now.program.now symbols bytes)
     (CanTreat only c.args.asked.now.harts bytes) c.ended.result old new (record {
       text = text;

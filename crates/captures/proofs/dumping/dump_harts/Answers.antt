@@ -33,7 +33,8 @@ returns-in_err-write_header_line-in-Ok-Some-clause-begun g c =
     let after = (goal.at.returns-in_err-write_header_line-in-Ok-Some-clause-begun g c).After-write_header_line in
     let is = headed g after in
     let made = err_from_is_err_and c.from_residual.result c.from_residual.ensures.1 in
-    rw made.1 (line_begun (option_map (λ file. file.now) c.args.symbols) c.args.harts c.args.capture.now c.in-Ok-Some.header c.header.new.self is.0 is.1 _ _ (rest_bytes g after)
+    rw made.1 (line_begun (option_map (λ file. file.now) c.args.symbols) c.args.harts c.args.capture.now
+    c.in-Ok-Some.header c.header.new.self is.0 is.1 _ _ (rest_bytes g after)
     c.write_header_line.ensures.begun)
 
 pub dump_messages-requires : goal.dump_messages-requires
@@ -44,7 +45,8 @@ pub returns-in_ok-write_header_line-in-Ok-Some-clause-dumped :
 returns-in_ok-write_header_line-in-Ok-Some-clause-dumped g c =
     let is = headed g (goal.at.returns-in_ok-write_header_line-in-Ok-Some-clause-dumped g c).After-write_header_line in
     IfOk-weaker c.dump_messages.result _ _
-    (λ dumped. headed_dumped (option_map (λ file. file.now) c.args.symbols) c.args.harts c.args.capture.now c.in-Ok-Some.header c.header.new.self is.0 is.1 _ _ _
+    (λ dumped. headed_dumped (option_map (λ file. file.now) c.args.symbols) c.args.harts c.args.capture.now
+    c.in-Ok-Some.header c.header.new.self is.0 is.1 _ _ _
     c.in_ok-write_header_line-in-Ok-Some.ensures.text dumped.bad dumped.fault)
     c.dump_messages.ensures.dumped
 
@@ -53,7 +55,8 @@ pub returns-in_ok-write_header_line-in-Ok-Some-clause-begun :
 returns-in_ok-write_header_line-in-Ok-Some-clause-begun g c =
     let is = headed g (goal.at.returns-in_ok-write_header_line-in-Ok-Some-clause-begun g c).After-write_header_line in
     on_err_weaker c.dump_messages.result
-    (headed_begun (option_map (λ file. file.now) c.args.symbols) c.args.harts c.args.capture.now c.in-Ok-Some.header c.header.new.self is.0 is.1 _ _ _
+    (headed_begun (option_map (λ file. file.now) c.args.symbols) c.args.harts c.args.capture.now c.in-Ok-Some.header
+    c.header.new.self is.0 is.1 _ _ _
     c.in_ok-write_header_line-in-Ok-Some.ensures.text)
     c.dump_messages.ensures.begun
 
@@ -63,8 +66,11 @@ returns-in-Ok-None-clause-dumped g c =
     let unmarked = subst (λ bytes. ¬ IsMarked bytes) c.new-messages.ensures (c.in-Ok-None.ensures.none.0 none) in
     let same = c.in-Ok-None.ensures.stays none ∙ c.new-messages.ensures in
     IfOk-weaker c.dump_messages-in-Ok-None.result _ _
-    (λ dumped all. messages_dumped (option_map (λ file. file.now) c.args.symbols) c.args.harts c.args.capture.now unmarked _ _ dumped.bad dumped.fault
-    (subst (λ bytes. AppendsDump (AreMessagesDumped (option_map (λ file. file.now) c.args.symbols) c.args.harts Differential bytes) dumped.bad dumped.fault
+    (λ dumped all. messages_dumped (option_map (λ file. file.now) c.args.symbols) c.args.harts c.args.capture.now
+    unmarked _ _ dumped.bad dumped.fault
+    (subst (λ bytes. AppendsDump
+    (AreMessagesDumped (option_map (λ file. file.now) c.args.symbols) c.args.harts Differential bytes) dumped.bad
+    dumped.fault
     (g.W.Write.contents c.args.sink.now) (g.W.Write.contents c.dump_messages-in-Ok-None.new.sink)) same all))
     c.dump_messages-in-Ok-None.ensures.dumped
 
@@ -75,14 +81,16 @@ returns-in-Ok-None-clause-begun g c =
     let same = c.in-Ok-None.ensures.stays none ∙ c.new-messages.ensures in
     on_err_weaker c.dump_messages-in-Ok-None.result
     (λ some. messages_begun (option_map (λ file. file.now) c.args.symbols) c.args.harts c.args.capture.now unmarked _ _
-    (subst (λ bytes. BeginsDump (AreMessagesDumped (option_map (λ file. file.now) c.args.symbols) c.args.harts Differential bytes)
+    (subst (λ bytes. BeginsDump
+    (AreMessagesDumped (option_map (λ file. file.now) c.args.symbols) c.args.harts Differential bytes)
     (g.W.Write.contents c.args.sink.now) (g.W.Write.contents c.dump_messages-in-Ok-None.new.sink)) same some))
     c.dump_messages-in-Ok-None.ensures.begun
 
 pub returns-in-Err-clause-dumped : goal.returns-in-Err-clause-dumped
 returns-in-Err-clause-dumped g c =
     let same = c.new-messages.ensures in
-    none_dumped (option_map (λ file. file.now) c.args.symbols) c.args.harts c.args.capture.now c.in-Err.fault (g.W.Write.contents c.args.sink.now)
+    none_dumped (option_map (λ file. file.now) c.args.symbols) c.args.harts c.args.capture.now c.in-Err.fault
+    (g.W.Write.contents c.args.sink.now)
     (no_header c.args.capture.now c.in-Err.fault c.in-Err.ensures.fault
     (λ short. subst IsCutHeader same (c.in-Err.ensures.short.0 (ap Err short)))
     (λ bad. subst HasBadHeader same (c.in-Err.ensures.bad_header.0 (ap Err bad))))

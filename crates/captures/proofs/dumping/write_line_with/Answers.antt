@@ -27,7 +27,8 @@ returns-in_err-write_address_name-clause-begun g c =
     let at = (goal.at.returns-in_err-write_address_name-clause-begun g c).After-write_text in
     begun_between (start g at) (name g at) (codes "\n") (g.W.Write.contents c.args.sink.now)
     (g.W.Write.contents c.write_text.new.out) (g.W.Write.contents c.write_address_name.new.sink)
-    c.in_ok-write_text.ensures.whole (subst (λ address. AppendsBeginning (address_name (option_map (λ file. file.now) c.args.symbols) address)
+    c.in_ok-write_text.ensures.whole
+    (subst (λ address. AppendsBeginning (address_name (option_map (λ file. file.now) c.args.symbols) address)
     (g.W.Write.contents c.write_text.new.out) (g.W.Write.contents c.write_address_name.new.sink)) c.address_of.ensures
     c.write_address_name.ensures.begun)
 
@@ -39,7 +40,8 @@ returns-in_err-write_bytes-clause-begun g c =
     let new = g.W.Write.contents c.write_bytes.new.out in
     begun_behind (start g at) (name g at ++ codes "\n") (g.W.Write.contents c.args.sink.now) mid new
     c.in_ok-write_text.ensures.whole
-    (begun_behind (name g at) (codes "\n") mid late new (subst (λ address. Appends mid late (address_name (option_map (λ file. file.now) c.args.symbols) address))
+    (begun_behind (name g at) (codes "\n") mid late new
+    (subst (λ address. Appends mid late (address_name (option_map (λ file. file.now) c.args.symbols) address))
     c.address_of.ensures c.in_ok-write_address_name.ensures.text)
     c.write_bytes.ensures.begun)
 

@@ -13,7 +13,8 @@ use Rattle.captures.proofs.line_writing.write_checked.Goals as goal
 pub returns-in_default-clause-begun : goal.returns-in_default-clause-begun
 returns-in_default-clause-begun g c =
     let start = start_bytes c.args.settings.now.version (header_with c.args.settings.now c.args.harts) in
-    let sent = capture (pass c.args.settings.now false (no_lines (Some c.args.form)) (lines c.args.text.now)).messages in
+    let sent = capture (pass c.args.settings.now false (no_lines (Some c.args.form)) (lines c.args.text.now)).messages
+    in
     let begun = rw (c.from-harts.ensures, c.unwrap_or.ensures) at c.write_start.ensures.begun in
     begun_in_front start sent (g.W.Write.contents c.args.sink.now) (g.W.Write.contents c.write_start.new.sink) begun
 

@@ -8,10 +8,10 @@ use Rattle.comparing.proofs.explanation.write_row.Goals as goal
 
 module _ (g : _) (c : After-write_text g) where
   abbrev start : List ℕ
-  start = row_start c.args.start.hart c.args.start.row c.args.start.kind c.args.start.event
+  start = row_start c.args.hart c.args.row c.args.kind c.args.event
 
   abbrev name : List ℕ
-  name = row_name (names_in c.args.how.now) c.args.start.event
+  name = row_name (names_in c.args.how.now) c.args.event
 
 pub returns-in_err-write_text-clause-begun : goal.returns-in_err-write_text-clause-begun
 returns-in_err-write_text-clause-begun g c =

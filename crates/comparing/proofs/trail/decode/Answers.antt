@@ -1,12 +1,14 @@
 -- What the decoder adds is told by its clauses, for lists that it is handed.
-use Rattle.std.proofs.Common.{◌≡◌, ◌++◌, ◌∷◌, [], ap, arith, subst, sym}
+use Rattle.std.proofs.Common.{◌≡◌, ◌++◌, ◌∷◌, ◌∙◌, [], ap, arith, subst, sym}
 use Rattle.std.proofs.lemmas.List.{length-append}
 use Rattle.decoder.specs.DecoderStands.{DecoderStands}
+use Rattle.decoder.specs.Describes.{Describes}
 use Rattle.rvclass.specs.Fetch.{words_of}
+use Rattle.payload.specs.declared.packet.Packet.{Packet}
 use Rattle.comparing.proofs.trail.decode.Goals as goal
 
-pub returns-in-Some : goal.returns-in-Some
-returns-in-Some g c = λ packets events stands.
+pub returns-in-Some-clause-decoded : goal.returns-in-Some-clause-decoded
+returns-in-Some-clause-decoded g c = λ packets events stands.
     let piece = c.feed_in_pieces.new.piece.items in
     let left = c.in-Ok-feed_in_pieces.left in
     let same = ap words_of c.of.ensures in
@@ -26,3 +28,11 @@ returns-in-Some g c = λ packets events stands.
           (c.in-Ok-feed_in_pieces.ensures.adds packets events (piece ++ left)
           (subst (λ words. DecoderStands words packets events c.args.decoder.now) (sym same) stands) cleared);
     }
+
+pub returns-in-Err-clause-stops : goal.returns-in-Err-clause-stops
+returns-in-Err-clause-stops g c = λ packets events stands stops packet is log described.
+    let same = ap words_of c.of.ensures in
+    let packet_is : packet ≡ c.in-Ok.packet = let both = sym is ∙ c.in-Ok.is in cc in
+    c.in-Err.ensures.adds_none packets events (subst (λ words. DecoderStands words packets events c.args.decoder.now) (sym same) stands)
+    log (subst (λ words. Describes words (packets ++ c.in-Ok.packet ∷ []) log) (sym same)
+    (subst (λ (packet : Packet). Describes (words_of c.args.program.now) (packets ++ packet ∷ []) log) packet_is described))

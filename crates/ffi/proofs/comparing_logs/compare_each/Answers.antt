@@ -1,16 +1,25 @@
 -- One hart more is compared: by lemmas on texts, which no tactic finds.
-use Rattle.std.proofs.Common.{◌+◌, ◌∙◌, slice_index_or, ap, refl, sym, subst, arith}
+use Rattle.std.proofs.Common.{◌≡◌, ◌+◌, ◌++◌, ◌∷◌, ◌∙◌, [], slice_index_or, take, ap, refl, sym, subst, arith}
+use Rattle.std.proofs.lemmas.List.{take_all}
 use Rattle.comparing.specs.Compared.{got_by, gots_by}
-use Rattle.comparing.specs.Lines.{line_of}
+use Rattle.comparing.specs.Explained.{explained_hart, explained_harts}
 use Rattle.comparing.specs.steps.Held.{count_in}
 use Rattle.legalpath.specs.ProgramLog.{program_log}
 use Rattle.receiver.specs.Received.{events_in}
-use Rattle.ffi.proofs.ComparedInTurn.{AreComparedUpTo, compared_all, compared_more}
+use Rattle.ffi.proofs.ComparedInTurn.{compared_more}
 use Rattle.ffi.proofs.HartsListed.{got_listed, gots_listed}
-use Rattle.ffi.proofs.TextsRead.{read_refused}
+use Rattle.ffi.proofs.TextsRead.{AreUpTo, read_none, read_refused, up_to_all, up_to_more}
 use Rattle.ffi.specs.Encoded.{IsLegalText, IsNoLegalText}
 use Rattle.ffi.specs.declared.fault.Fault.TheVariants.{Memory}
+use Rattle.ffi.specs.steps.Comparing.{AreCompared}
 use Rattle.ffi.proofs.comparing_logs.compare_each.Goals as goal
+
+pub loop-place-init : goal.loop-place-init
+loop-place-init c = record {
+  logs = [];
+  read = read_none c.args.program.now c.args.logs.now c.args.ends.now;
+  holds = c.new-said.ensures.items;
+}
 
 pub returns-in-Err-clause-refused : goal.returns-in-Err-clause-refused
 returns-in-Err-clause-refused c =
@@ -43,25 +52,39 @@ loop-place-preserved c =
     c.as_slice.result.now c.index-closed.result.now flags (omega (arith, many, within)) c.index-decoded.ensures
     c.count_at-count.ensures c.as_slice.ensures.value c.index-closed.ensures in
     let all = many ∙ sym (gots_listed counts lists closed flags) in
-    subst (AreComparedUpTo program c.args.logs.now c.args.ends.now gots (place + 1) end) (sym c.in-Ok-push.ensures.items)
-    (compared_more program c.args.logs.now c.args.ends.now gots all place c.loop-place.from c.loop-place.lines.items end
-    got c.line_of-line.result within refl there c.loop-place.invariant
+    let before = c.loop-place.said.items in
+    let own = c.explained_of-one.result in
+    subst (λ said. AreUpTo program c.args.logs.now c.args.ends.now (place + 1) end
+    (λ logs. said ≡ explained_harts 0 (take (place + 1) gots) logs)) (sym c.in-Ok-push.ensures.items)
+    (up_to_more program c.args.logs.now c.args.ends.now place c.loop-place.from
+    (λ logs. before ≡ explained_harts 0 (take place gots) logs)
+    (λ logs. before ++ own ∷ [] ≡ explained_harts 0 (take (place + 1) gots) logs) end
+    (λ log. own ≡ explained_hart place got log) within refl
+    (λ logs log. compared_more gots place before got own logs log (omega (arith, all, within)) there)
+    c.loop-place.invariant
     (record {
       log = program_log program c.in-Ok.events.items;
       legal = subst (λ text. IsLegalText program text (program_log program c.in-Ok.events.items))
           c.text_between-text.ensures c.in-Ok.ensures.log;
-      is = c.line_of-line.ensures program
-          ∙ ap (λ events. line_of place got (program_log program events)) c.as_slice-in-loop-place.ensures.value;
+      holds = c.explained_of-one.ensures program
+          ∙ ap (λ events. explained_hart place got (program_log program events)) c.as_slice-in-loop-place.ensures.value;
     }))
 
-pub returns-clause-lines : goal.returns-clause-lines
-returns-clause-lines c =
+pub returns-clause-said : goal.returns-clause-said
+returns-clause-said c =
     let lists = c.args.outcome.now.harts.items in
     let closed = c.args.outcome.now.closed.items in
     let counts = c.args.counts.now in
+    let place = c.loop-place.place in
+    let said = c.loop-place.said.items in
+    let gots = gots_by (count_in counts) 0 (events_in lists) closed in
+    let all = c.requires.many ∙ sym (gots_listed counts lists closed c.requires.flags) in
     let past = c.loop-place-test.false in
     let up_to = c.loop-place.auto.place-end in
-    compared_all c.args.program.now c.args.logs.now c.args.ends.now
-    (gots_by (count_in counts) 0 (events_in lists) closed)
-    (c.requires.many ∙ sym (gots_listed counts lists closed c.requires.flags)) c.loop-place.place c.loop-place.from
-    c.loop-place.lines.items (omega (arith, past, up_to)) c.loop-place.invariant
+    up_to_all c.args.program.now c.args.logs.now c.args.ends.now place c.loop-place.from
+    (λ logs. said ≡ explained_harts 0 (take place gots) logs) (AreCompared gots said) (omega (arith, past, up_to))
+    (λ logs many each. record {
+      many = many ∙ all;
+      each = each ∙ ap (λ front. explained_harts 0 front logs) (take_all place gots (omega (arith, past, up_to, all)));
+    })
+    c.loop-place.invariant

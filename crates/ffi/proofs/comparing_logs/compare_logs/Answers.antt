@@ -2,10 +2,14 @@
 use Rattle.std.proofs.Common.{◌∙◌, subst, sym, refl}
 use Rattle.comparing.specs.Compared.{gots_by}
 use Rattle.comparing.specs.steps.Held.{count_in}
+use Rattle.comparing.proofs.LineTexts.{harts_numbered}
+use Rattle.comparing.specs.Sourced.{AreNumbered}
 use Rattle.receiver.specs.Received.{events_in}
+use Rattle.rvclass.specs.Fetch.{words_of}
 use Rattle.ffi.proofs.HartsListed.{gots_listed, lists_many}
 use Rattle.ffi.proofs.HeldForLogs.{comparison_found, flags_for, flags_held, held_for, log_refused}
 use Rattle.ffi.specs.steps.Comparing.{AreCompared, Writes}
+use Rattle.ffi.specs.steps.OfTexts.{AreTextsOf}
 use Rattle.ffi.proofs.comparing_logs.compare_logs.Goals as goal
 
 pub returns-then-ends-len : goal.returns-then-ends-len
@@ -50,8 +54,8 @@ returns-in-Err-compare_each c =
     })
     c.in-Err-compare_each.ensures.refused
 
-pub returns-in-Ok-write_lines : goal.returns-in-Ok-write_lines
-returns-in-Ok-write_lines c =
+pub returns-in-Ok-write_said : goal.returns-in-Ok-write_said
+returns-in-Ok-write_said c =
     let outcome = c.in-Ok-decode_capture.outcome in
     let lists = outcome.harts.items in
     let closed = outcome.closed.items in
@@ -66,11 +70,20 @@ returns-in-Ok-write_lines c =
     c.in-Ok-counts_of.ensures c.stop_fault.result c.stop_fault.ensures c.if-stop_fault-eq-MEMORY.false)
     closed
     (flags_held (count_in counts) 0 (events_in lists) closed (flags ∙ sym (lists_many counts lists closed)))
-    c.in-Ok-compare_each.lines.items
+    c.in-Ok-compare_each.said.items
     (subst
-    (λ all. AreCompared c.in-Ok.program c.args.logs.now c.args.ends.now (gots_by (count_in all) 0 (events_in lists) closed)
-    c.in-Ok-compare_each.lines.items) c.as_slice.ensures.value c.in-Ok-compare_each.ensures.lines)
-    c.in-Ok-write_lines.written
-    (subst (λ l. Writes l closed outcome.fault c.in-Ok-write_lines.written) c.as_slice-2.ensures.value
-    (subst (λ f. Writes c.as_slice-2.result.now f outcome.fault c.in-Ok-write_lines.written) c.as_slice-3.ensures.value
-    c.in-Ok-write_lines.ensures))
+    (λ all. AreTextsOf c.in-Ok.program c.args.logs.now c.args.ends.now
+    (AreCompared (gots_by (count_in all) 0 (events_in lists) closed) c.in-Ok-compare_each.said.items))
+    c.as_slice.ensures.value c.in-Ok-compare_each.ensures.said)
+    c.in-Ok-write_said.written
+    (subst (λ l. Writes (words_of c.in-Ok.program) c.args.capture.now l closed outcome.fault c.in-Ok-write_said.written) c.as_slice-2.ensures.value
+    (subst (λ f. Writes (words_of c.in-Ok.program) c.args.capture.now c.as_slice-2.result.now f outcome.fault
+    c.in-Ok-write_said.written) c.as_slice-3.ensures.value
+    c.in-Ok-write_said.ensures))
+
+pub write_said-requires : goal.write_said-requires
+write_said-requires c =
+    let are = c.in-Ok-compare_each.ensures.said in
+    subst (AreNumbered 0) (sym c.as_slice-2.ensures.value)
+    (subst (AreNumbered 0) (sym are.holds.each)
+    (harts_numbered 0 _ are.logs))

@@ -37,9 +37,10 @@ returns c =
     (subst (λ all. AreTreated (words_of program) c.mode_of-mode.result c.harts_counted-harts.result all treated)
     (c.as_slice-messages.ensures.value ∙ behind.frames.messages ∙ messages_chosen every_hart spans)
     c.in_ok-treated.ensures)) in
-    let rows : c.as_slice-2.result.now ≡ in_rows own treated =
-    c.as_slice-2.ensures.value ∙ c.in_ok-rows.ensures ∙ ap (in_rows c.as_slice-messages.result.now) c.as_slice.ensures.value
-    ∙ ap (λ all. in_rows all treated)
+    let rows : c.as_slice-2.result.now ≡ in_rows c.args.format own treated =
+    c.as_slice-2.ensures.value ∙ c.in_ok-rows.ensures ∙ ap (in_rows c.args.format c.as_slice-messages.result.now)
+    c.as_slice.ensures.value
+    ∙ ap (λ all. in_rows c.args.format all treated)
     (c.as_slice-messages.ensures.value ∙ behind.frames.messages ∙ messages_chosen every_hart spans) in
     record {
       header = found.header;
@@ -52,7 +53,7 @@ returns c =
           ∙ ap (λ (before : List ℕ). before ++ treated_text_of c.args.format every_hart file start.header capture
           c.as_slice-2.result.now) c.new-text.ensures.items
           ∙ ap (treated_text_of c.args.format every_hart file start.header capture) rows
-          ∙ ap (λ h. treated_text_of c.args.format every_hart file h capture (in_rows (all_messages h capture) treated))
+          ∙ ap (λ h. treated_text_of c.args.format every_hart file h capture (in_rows c.args.format (all_messages h capture) treated))
           (sym behind.header_is);
       ended = c.end_of_found-end.ensures
           ∙ ap (λ (r : HartRange). salvage_end r found.fault found.frames.runs found.salvaged) is.only_is

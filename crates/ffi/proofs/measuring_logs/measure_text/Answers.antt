@@ -10,9 +10,11 @@ pub returns-in-Ok-clause-measured : goal.returns-in-Ok-clause-measured
 returns-in-Ok-clause-measured c = record {
   log = program_log c.args.program.now c.in-Ok.events.items;
   legal = c.in-Ok.ensures.log;
-  counted = c.count_events.ensures.value
-      (subst (Legal (words_of c.args.program.now)) (sym c.as_slice.ensures.value) c.in-Ok.ensures.legal)
-      ∙ ap (λ events. measures_of c.args.period c.args.mode (program_log c.args.program.now events))
-      c.as_slice.ensures.value;
-  within = c.count_events.ensures.few;
+  holds = record {
+    counted = c.count_events.ensures.value
+        (subst (Legal (words_of c.args.program.now)) (sym c.as_slice.ensures.value) c.in-Ok.ensures.legal)
+        ∙ ap (λ events. measures_of c.args.period c.args.mode (program_log c.args.program.now events))
+        c.as_slice.ensures.value;
+    within = c.count_events.ensures.few;
+  };
 }

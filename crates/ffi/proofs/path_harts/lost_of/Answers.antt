@@ -1,30 +1,10 @@
 -- The lost numbers of one hart more are added: by lemmas on lists, which no tactic finds.
-use Prim.Native.Nat.{suc}
-use Rattle.std.proofs.Common.{◌≡◌, ℕ, ◌+◌, ◌-◌, ◌<◌, ◌≤◌, List, ◌∷◌, [], ◌++◌, ◌∙◌, length, map, sym, ap, arith}
-use Rattle.std.proofs.Common.{append_assoc, append-nil}
-use Rattle.std.specs.List.{flat_map, range_with_len}
+use Rattle.std.proofs.Common.{◌++◌, ◌∙◌, length, map, ap, arith}
 use Rattle.auditing.specs.Known.{known_all}
 use Rattle.auditing.specs.Losing.{lost_runs}
 use Rattle.ffi.specs.AuditedAll.{all_lost, lost_reported}
-use Rattle.ffi.specs.declared.path_numbers.LostRun.{LostRun}
+use Rattle.ffi.proofs.HartsInTurn.{lost_all, lost_more}
 use Rattle.ffi.proofs.path_harts.lost_of.Goals as goal
-
-module _ (of : ℕ → List LostRun) (lost new whole : List LostRun) (hart count : ℕ)
-    (left : lost ++ flat_map of (range_with_len hart (count - hart)) ≡ whole) where
-  lost_more : hart < count → new ≡ lost ++ of hart
-      → new ++ flat_map of (range_with_len (hart + 1) (count - (hart + 1))) ≡ whole
-  lost_more within is =
-      let one : count - hart ≡ suc (count - (hart + 1)) = omega (arith, within) in
-      let rest = flat_map of (range_with_len (hart + 1) (count - (hart + 1))) in
-      ap (λ l. l ++ rest) is
-      ∙ append_assoc lost (of hart) rest
-      ∙ ap (λ n. lost ++ flat_map of (range_with_len hart n)) (sym one)
-      ∙ left
-
-  lost_all : count ≤ hart → lost ≡ whole
-  lost_all past =
-      let none : count - hart ≡ 0 = omega (arith, past) in
-      sym (append-nil lost) ∙ ap (λ n. lost ++ flat_map of (range_with_len hart n)) (sym none) ∙ left
 
 pub loop-hart-preserved : goal.loop-hart-preserved
 loop-hart-preserved c = λ own came audits.

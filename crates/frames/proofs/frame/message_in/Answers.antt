@@ -6,5 +6,6 @@ use Rattle.frames.proofs.frame.message_in.Goals as goal
 
 pub returns-clause-message : goal.returns-clause-message
 returns-clause-message c = λ message.
-    subst (λ answer. (answer ≡ Some message) ↔ BeginsMessage message c.args.bytes.now) (sym c.first_message.ensures.value)
+    subst (λ answer. (answer ≡ Some message) ↔ BeginsMessage message c.args.bytes.now)
+    (sym c.first_message.ensures.value)
     (message_in-begins message c.args.bytes.now c.first_message.ensures.bytes)

@@ -12,5 +12,6 @@ returns-in-Frame-clause-damaged g c =
 pub returns-in-Frame-clause-begun : goal.returns-in-Frame-clause-begun
 returns-in-Frame-clause-begun g c =
     subst
-    (λ span. AppendsBeginning (span_line (option_map (λ file. file.now) c.args.symbols) c.args.mode span) (g.W.Write.contents c.args.sink.now)
+    (λ span. AppendsBeginning (span_line (option_map (λ file. file.now) c.args.symbols) c.args.mode span)
+    (g.W.Write.contents c.args.sink.now)
     (g.W.Write.contents c.write_message_line.new.sink)) (sym c.in-Frame.is) c.write_message_line.ensures.begun

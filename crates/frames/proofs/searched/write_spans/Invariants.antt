@@ -5,4 +5,5 @@ use Rattle.frames.proofs.searched.write_spans.Given as goal
 
 abbrev pub invariant-loop-span : goal.invariant-loop-span
 invariant-loop-span g l =
-    HasWritten (option_map (λ file. file.now) l.symbols) l.harts l.mode l.fn.spans l.span-iterator l.damaged (g.W.Write.contents l.fn.sink) (g.W.Write.contents l.sink)
+    HasWritten (option_map (λ file. file.now) l.symbols) l.harts l.mode l.fn.spans l.span-iterator l.damaged
+    (g.W.Write.contents l.fn.sink) (g.W.Write.contents l.sink)

@@ -11,7 +11,8 @@ pub returns-then-is_firm : goal.returns-then-is_firm
 returns-then-is_firm c =
     let bytes = c.args.bytes.now in
     let firm : is_firm (is_frame c.args.known) (drop c.loop-at.at bytes) ≡ true =
-    ap (is_firm (is_frame c.args.known)) (sym (take_rest bytes c.loop-at.at)) ∙ sym c.is_firm.ensures ∙ c.if-is_firm.true in
+    ap (is_firm (is_frame c.args.known)) (sym (take_rest bytes c.loop-at.at)) ∙ sym c.is_firm.ensures
+    ∙ c.if-is_firm.true in
     let within = c.loop-at-test.true in
     let size = c.frame_size-at-end.ensures in
     sym (inside-here (is_frame c.args.known) c.loop-at.at bytes c.loop-at.auto.at (omega (arith, within, size)) firm)
@@ -20,7 +21,8 @@ pub loop-at-preserved : goal.loop-at-preserved
 loop-at-preserved c =
     let bytes = c.args.bytes.now in
     let here : is_firm (is_frame c.args.known) (drop c.loop-at.at bytes) ≡ false =
-    ap (is_firm (is_frame c.args.known)) (sym (take_rest bytes c.loop-at.at)) ∙ sym c.is_firm.ensures ∙ c.if-is_firm.false in
+    ap (is_firm (is_frame c.args.known)) (sym (take_rest bytes c.loop-at.at)) ∙ sym c.is_firm.ensures
+    ∙ c.if-is_firm.false in
     through (λ k. is_firm (is_frame c.args.known) (drop k bytes) ≡ false) c.loop-at.at c.loop-at.invariant here
 
 pub returns : goal.returns

@@ -1,23 +1,30 @@
 -- The next message of SENT is the first that is left: by a lemma on what is read, which no tactic finds.
-use Rattle.std.proofs.Common.{◌≡◌, ◌∙◌, None, Ok, subst, sym, take}
+use Rattle.std.proofs.Common.{◌≡◌, ◌∙◌, Err, None, Ok, subst, sym, take}
 use Rattle.auditing.specs.Sent.{misplaced}
-use Rattle.live.specs.Following.{IsNext}
-use Rattle.live.proofs.Following.{at_end, next_sent}
+use Rattle.live.specs.Following.{IsNext, IsSourceFault}
+use Rattle.live.proofs.Following.{at_end, next_sent, refused_next}
 use Rattle.live.proofs.Reading.{placed_if}
 use Rattle.live.proofs.looking.next_sent.Goals as goal
 
 pub returns-in-Some : goal.returns-in-Some
-returns-in-Some g c = λ all read came front right reads. tt
+returns-in-Some g c = λ all read came front right reads.
+    let left = g.S.SentSource.left c.args.source.now in
+    refused_next all right read came front c.args.window.now left reads c.in-Ok-Some.message
+    (g.S.SentSource.left c.next.new.self)
+    (subst (λ o. IsNext (Ok o) left (g.S.SentSource.left c.next.new.self)) c.in-Ok-Some.field-0-is c.in-Ok-Some.ensures)
+    c.in-Some.why (sym c.refusal.ensures ∙ c.in-Some.is)
 
 pub returns-in-None : goal.returns-in-None
 returns-in-None g c = λ all read came front right reads.
     let left = g.S.SentSource.left c.args.source.now in
     let message = c.in-Ok-Some.message in
+    let none = sym c.refusal.ensures ∙ c.in-None.is in
+    let next =
     next_sent all right read came front c.args.window.now left reads message (g.S.SentSource.left c.next.new.self)
     (subst (λ o. IsNext (Ok o) left (g.S.SentSource.left c.next.new.self)) c.in-Ok-Some.field-0-is c.in-Ok-Some.ensures)
     (subst (λ n. misplaced n (take read all.sent) message ≡ None) reads.harts
-    (placed_if (take read all.sent) came front c.args.window.now reads.holds message
-    (sym c.refusal.ensures ∙ c.in-None.is)))
+    (placed_if (take read all.sent) came front c.args.window.now reads.holds message none)) in
+    (next.0, next.1, none)
 
 pub returns-in-Ok-None : goal.returns-in-Ok-None
 returns-in-Ok-None g c = λ all read came front right reads.
@@ -27,4 +34,5 @@ returns-in-Ok-None g c = λ all read came front right reads.
     (at_end all right read came front c.args.window.now left reads none.0, none.1 ∙ sym none.0 ∙ reads.remains)
 
 pub returns-in-Err : goal.returns-in-Err
-returns-in-Err g c = λ all read came front right reads. tt
+returns-in-Err g c = λ all read came front right reads.
+    subst (IsSourceFault c.in-Err.why) reads.remains c.in-Err.ensures

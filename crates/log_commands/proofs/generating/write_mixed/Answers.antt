@@ -1,6 +1,6 @@
 -- The prover makes no record by itself: what was begun is handed on.
 use Rattle.std.proofs.Common.{subst}
-use Rattle.stimulus.specs.Mixed.{BeginsMixed, header_of}
+use Rattle.stimulus.specs.Mixed.{BeginsMixed}
 use Rattle.log_commands.proofs.Generated.{keeps_itself, mixed_cut}
 use Rattle.log_commands.proofs.generating.write_mixed.Goals as goal
 
@@ -11,7 +11,7 @@ returns-in_err-write_capture-clause-cut g c =
     let old = g.O.Write.contents c.args.out.now in
     let mid = g.O.Write.contents c.write_capture.new.sink in
     mixed_cut asked program c.args.mix old mid mid
-    (subst (λ made. BeginsMixed program made.version (header_of made) old mid) c.capture_of.ensures
+    (subst (λ made. BeginsMixed program made old mid) c.capture_of.ensures
     c.write_capture.ensures.begun) (keeps_itself mid)
 
 pub returns-in_err-flush-clause-cut : goal.returns-in_err-flush-clause-cut
@@ -21,7 +21,7 @@ returns-in_err-flush-clause-cut g c =
     let old = g.O.Write.contents c.args.out.now in
     let mid = g.O.Write.contents c.write_capture.new.sink in
     mixed_cut asked program c.args.mix old mid (g.O.Write.contents c.flush.new.self)
-    (subst (λ made. BeginsMixed program made.version (header_of made) old mid) c.capture_of.ensures
+    (subst (λ made. BeginsMixed program made old mid) c.capture_of.ensures
     c.write_capture.ensures.begun) c.flush.ensures.bytes
 
 pub returns-clause-cut : goal.returns-clause-cut
@@ -31,5 +31,5 @@ returns-clause-cut g c =
     let old = g.O.Write.contents c.args.out.now in
     let mid = g.O.Write.contents c.write_capture.new.sink in
     mixed_cut asked program c.args.mix old mid (g.O.Write.contents c.flush.new.self)
-    (subst (λ made. BeginsMixed program made.version (header_of made) old mid) c.capture_of.ensures
+    (subst (λ made. BeginsMixed program made old mid) c.capture_of.ensures
     c.write_capture.ensures.begun) c.flush.ensures.bytes

@@ -1,7 +1,6 @@
 -- One message more is kept: by lemmas on lists, which no tactic finds.
-use Rattle.std.proofs.Common.{◌≡◌, ◌++◌, ◌∷◌, [], Ok, Err, Result, arith, length}
+use Rattle.std.proofs.Common.{◌≡◌, ◌++◌, ◌∷◌, [], arith, length}
 use Rattle.std.proofs.lemmas.Grind.{common_steps}
-use Rattle.std.specs.Prelude.{OnOk}
 use Rattle.auditing.proofs.Recognised.{ok_then}
 use Rattle.path_commands.proofs.ByHartLemmas.{kept_more}
 use Rattle.path_commands.proofs.by_hart.take_message.Goals as goal

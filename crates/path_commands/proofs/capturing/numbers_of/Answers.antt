@@ -1,5 +1,5 @@
 -- A power of 2 is known by its exponent: by lemmas on numbers.
-use Rattle.std.proofs.Common.{◌≡◌, ◌∙◌, ◌<◌, ◌≤◌, ◌^◌, ap, arith, subst, sym, Some}
+use Rattle.std.proofs.Common.{◌∙◌, ◌≤◌, ap, arith, subst, sym, Some}
 use Rattle.std.proofs.lemmas.Nat.{one_shl, pow_below}
 use Rattle.command_inputs.specs.Limits.{AreBitsIfGiven}
 use Rattle.path_commands.specs.Capturing.{numbers_of}

@@ -1,5 +1,5 @@
 -- RECEIVED is read by lengths, or by the payloads of SENT: by lemmas on captures, which no tactic finds.
-use Rattle.std.proofs.Common.{◌≡◌, ◌∙◌, ◌<◌, ◌^◌, ℕ, List, [], ap, arith, drop, length, refl, subst}
+use Rattle.std.proofs.Common.{◌≡◌, ◌∙◌, ℕ, List, [], ap, arith, drop, length, refl, subst}
 use Rattle.std.specs.Prelude.{IfSome}
 use Rattle.frames.specs.Framed.{is_framed}
 use Rattle.frames.specs.Passages.{Sees, spans_from, spans_left}

@@ -2,7 +2,7 @@
 use Rattle.std.proofs.Common.{◌∙◌, refl, subst}
 use Rattle.message.specs.Range.{selected}
 use Rattle.salvaging.specs.Salvages.{GivesSalvaged}
-use Rattle.frames.specs.Search.{chosen, mode_of}
+use Rattle.frames.specs.Search.{chosen}
 use Rattle.frames.specs.Start.{spans_of}
 use Rattle.salvage_reports.specs.Frames.{AreFrames, messages_in}
 use Rattle.salvage_reports.proofs.OwnSpans.{messages_chosen}

@@ -1,12 +1,15 @@
 -- The prover does not part a text in four: the lemmas on it are handed to it.
 use Rattle.std.specs.Prelude.{option_map}
-use Rattle.std.proofs.Common.{◌++◌, ◌∙◌, Global, List, ap, subst, ℕ}
+use Rattle.std.proofs.Common.{◌≡◌, ◌++◌, ◌∙◌, Global, List, ap, subst, ℕ}
 use Rattle.std.specs.Io.KnownBytes.{Appends}
 use Rattle.output.specs.Begun.{AppendsBeginning}
 use Rattle.output.proofs.Beginnings.{begun_behind, begun_between, begun_in_front}
 use Rattle.output.proofs.Items.{ok_behind}
+use Rattle.salvaging.specs.PartsIn.{parts_in}
+use Rattle.salvaging.specs.declared.far_number.FarNumber.{FarNumber}
 use Rattle.salvaging.specs.declared.part.Part.{Part}
-use Rattle.salvage_reports.specs.Layouts.{counts_text, parts_text}
+use Rattle.salvage_reports.specs.Layouts.{counts_text, texts_from}
+use Rattle.salvage_reports.specs.ShownParts.{none_gone}
 use Rattle.salvage_reports.specs.Offsets.{own_offsets}
 use Rattle.salvage_reports.specs.SalvagedItems.{item_text, said_of, text_if}
 use Rattle.salvage_reports.specs.declared.salvaged_items.Item.TheVariants as item
@@ -21,16 +24,25 @@ module _ (g : _) (c : After-write_item g) where
   abbrev said : List ℕ
   said = text_if c.args.style.layout (said_of c.args.hart c.args.found.now.header c.args.own.now.mode)
 
-  abbrev parts_by : List ℕ → List (Part Global) → List ℕ
-  parts_by offsets parts =
-      parts_text c.args.style.layout (option_map (λ file. file.now) c.args.style.symbols) c.args.hart offsets
-      parts
+  abbrev parts_by : List ℕ → List ℕ → List FarNumber → List (Part Global) → List ℕ
+  parts_by offsets gaps far parts =
+      texts_from c.args.style.layout (option_map (λ file. file.now) c.args.style.symbols) c.args.hart offsets gaps far
+      none_gone (parts_in parts)
 
   abbrev parts : List ℕ
-  parts = parts_by (own_offsets c.args.found.now.frames.offsets.items c.args.hart) c.args.own.now.parts.items
+  parts =
+      parts_by (own_offsets c.args.found.now.frames.offsets.items c.args.hart) c.args.own.now.gaps.items
+      c.args.own.now.far.items c.args.own.now.parts.items
 
   abbrev counts : List ℕ
   counts = counts_text c.args.style.layout c.args.hart c.args.own.now
+
+-- The lists are handed over as slices.
+parts_same : (g : _) (at : After-write_item g) (offsets gaps : List ℕ) (far : List FarNumber) (all : List (Part Global))
+    → offsets ≡ own_offsets at.args.found.now.frames.offsets.items at.args.hart → gaps ≡ at.args.own.now.gaps.items
+    → far ≡ at.args.own.now.far.items → all ≡ at.args.own.now.parts.items
+    → parts_by g at offsets gaps far all ≡ parts g at
+parts_same g at offsets gaps far all o n f p = λ i. parts_by g at (o i) (n i) (f i) (p i)
 
 pub returns-in_err-write_item-clause-begun : goal.returns-in_err-write_item-clause-begun
 returns-in_err-write_item-clause-begun g c =
@@ -57,10 +69,10 @@ returns-in_err-write_parts-clause-begun g c =
     c.in_ok-write_item.ensures.text
     (begun_between (said g at) (parts g at) (counts g at) first second new
     (subst (λ one. Appends first second (text_if c.args.style.layout one)) c.said_of.ensures c.in_ok-write_if.ensures.text)
-    (subst (λ list. AppendsBeginning (parts_by g at list c.args.own.now.parts.items) second new)
+    (subst (λ text. AppendsBeginning text second new)
+    (parts_same g at _ _ _ _
     (c.offsets_of-offsets.ensures ∙ ap (λ l. own_offsets l c.args.hart) c.as_slice.ensures.value)
-    (subst (λ list. AppendsBeginning (parts_by g at c.offsets_of-offsets.result.now list) second new)
-    c.as_slice-2.ensures.value c.write_parts.ensures.begun)))
+    c.as_slice-2.ensures.value c.as_slice-3.ensures.value c.as_slice-4.ensures.value) c.write_parts.ensures.begun))
 
 pub returns-clause-text : goal.returns-clause-text
 returns-clause-text g c =
@@ -75,10 +87,10 @@ returns-clause-text g c =
     (ok_behind (said g at) (parts g at ++ counts g at) first second new ended
     (subst (λ one. Appends first second (text_if c.args.style.layout one)) c.said_of.ensures c.in_ok-write_if.ensures.text)
     (ok_behind (parts g at) (counts g at) second third new ended
-    (subst (λ list. Appends second third (parts_by g at list c.args.own.now.parts.items))
+    (subst (Appends second third) (parts_same g at _ _ _ _
     (c.offsets_of-offsets.ensures ∙ ap (λ l. own_offsets l c.args.hart) c.as_slice.ensures.value)
-    (subst (λ list. Appends second third (parts_by g at c.offsets_of-offsets.result.now list))
-    c.as_slice-2.ensures.value c.in_ok-write_parts.ensures.text)) c.write_counts.ensures.text))
+    c.as_slice-2.ensures.value c.as_slice-3.ensures.value c.as_slice-4.ensures.value)
+    c.in_ok-write_parts.ensures.text) c.write_counts.ensures.text))
 
 pub returns-clause-begun : goal.returns-clause-begun
 returns-clause-begun g c =
@@ -92,7 +104,7 @@ returns-clause-begun g c =
     (begun_behind (said g at) (parts g at ++ counts g at) first second new
     (subst (λ one. Appends first second (text_if c.args.style.layout one)) c.said_of.ensures c.in_ok-write_if.ensures.text)
     (begun_behind (parts g at) (counts g at) second third new
-    (subst (λ list. Appends second third (parts_by g at list c.args.own.now.parts.items))
+    (subst (Appends second third) (parts_same g at _ _ _ _
     (c.offsets_of-offsets.ensures ∙ ap (λ l. own_offsets l c.args.hart) c.as_slice.ensures.value)
-    (subst (λ list. Appends second third (parts_by g at c.offsets_of-offsets.result.now list))
-    c.as_slice-2.ensures.value c.in_ok-write_parts.ensures.text)) c.write_counts.ensures.begun))
+    c.as_slice-2.ensures.value c.as_slice-3.ensures.value c.as_slice-4.ensures.value)
+    c.in_ok-write_parts.ensures.text) c.write_counts.ensures.begun))

@@ -13,7 +13,7 @@ use Rattle.salvage_reports.proofs.hart_rows.all_counted.Goals as goal
 
 -- What a place past the end reads as.
 abbrev any : Treated
-any = record { treatment = Stranger; late = false }
+any = record { treatment = Stranger; far = false; late = false }
 
 pub loop-at-preserved : goal.loop-at-preserved
 loop-at-preserved g c =

@@ -1,9 +1,8 @@
 -- The first event and the last are found by a lemma on lists, and the symbols are put in.
-use Rattle.std.proofs.Common.{rules, ◌≡◌, ◌≤◌, length, sym, subst, option_map, List, ℕ}
+use Rattle.std.proofs.Common.{rules, ◌≤◌, length, subst}
 use Rattle.std.specs.Io.KnownBytes.{Appends}
 use Rattle.std.specs.Prelude.{OnOk}
 use Rattle.output.specs.Begun.{AppendsBeginning}
-use Rattle.salvage_reports.specs.StretchEnds.{behind_text, range_text}
 use Rattle.salvage_reports.proofs.RangeOf.{range_is}
 use Rattle.salvage_reports.proofs.stretch_ends.write_places.Goals as goal
 

@@ -1,5 +1,5 @@
 -- The spans are counted one after the other: by lemmas on sums, which no tactic finds.
-use Rattle.std.proofs.Common.{◌≡◌, ◌+◌, ap, ◌∙◌}
+use Rattle.std.proofs.Common.{◌+◌, ap, ◌∙◌}
 use Rattle.std.proofs.lemmas.List.Sums.{sum_by-cons}
 use Rattle.std.specs.Prelude.{sum_by}
 use Rattle.salvage_reports.specs.Totals.{capped, loose_bytes}

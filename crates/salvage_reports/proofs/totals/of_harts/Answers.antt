@@ -1,9 +1,9 @@
 -- The harts are counted one after the other: by lemmas on sums, which no tactic finds.
-use Rattle.std.proofs.Common.{◌≡◌, ◌+◌, ◌≤◌, ◌<◌, ◌∷◌, ap, arith, drop, length, sym, ◌∙◌}
+use Rattle.std.proofs.Common.{◌+◌, ◌≤◌, ◌<◌, ◌∷◌, ap, arith, drop, length, sym, ◌∙◌}
 use Rattle.std.proofs.lemmas.List.{drop_all, drop_more}
 use Rattle.std.proofs.lemmas.List.Sums.{sum_by-cons}
 use Rattle.std.specs.Prelude.{sum_by}
-use Rattle.salvage_reports.specs.Totals.{capped, hart_count}
+use Rattle.salvage_reports.specs.Totals.{hart_count}
 use Rattle.salvage_reports.proofs.CappedSums.{capped_end, capped_step, fits_by}
 use Rattle.salvage_reports.proofs.totals.of_harts.Goals as goal
 

@@ -6,7 +6,7 @@ use Rattle.output.proofs.Beginnings.{whole_begun}
 use Rattle.payload.specs.Reading.{reading}
 use Rattle.salvage_reports.proofs.TreatedLine.{head_begun, line_written, tail_begun, word_begun}
 use Rattle.listing.specs.SettledRows.{shows_rows}
-use Rattle.salvage_reports.specs.Words.{late_text}
+use Rattle.salvage_reports.specs.Words.{far_text, late_text}
 use Rattle.salvage_reports.proofs.treated_messages.write_line.Goals.{After-late_text-late, After-unpack-unpacked}
 use Rattle.salvage_reports.proofs.treated_messages.write_line.Goals as goal
 
@@ -15,8 +15,9 @@ module _ (g : _) (c : After-unpack-unpacked g) where
   same = c.unpack-unpacked.ensures.value ∙ ap reading c.bytes.ensures.same
 
 module _ (g : _) (c : After-late_text-late g) where
-  tail_is : (c.late_text-late.result.now ++ codes "\n") ≡ late_text c.args.one.treated.now.treated.late ++ codes "\n"
-  tail_is = ap (λ late. late ++ codes "\n") c.late_text-late.ensures
+  tail_is : (c.far_text-far.result.now ++ (c.late_text-late.result.now ++ codes "\n"))
+      ≡ far_text c.args.one.treated.now.treated.far ++ (late_text c.args.one.treated.now.treated.late ++ codes "\n")
+  tail_is = λ i. c.far_text-far.ensures i ++ (c.late_text-late.ensures i ++ codes "\n")
 
 pub returns-in_err-write_text-clause-begun : goal.returns-in_err-write_text-clause-begun
 returns-in_err-write_text-clause-begun g c =

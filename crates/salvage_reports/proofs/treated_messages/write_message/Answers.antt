@@ -1,5 +1,5 @@
 -- Lines of this form say the rows as the form does: the form that is asked for is put in by hand.
-use Rattle.std.proofs.Common.{◌≡◌, OnOk, option_map, subst, sym}
+use Rattle.std.proofs.Common.{OnOk, option_map, subst, sym}
 use Rattle.std.specs.Io.KnownBytes.{Appends}
 use Rattle.output.specs.Begun.{AppendsBeginning}
 use Rattle.listing.specs.SettledRows.{shows_rows}

@@ -2,16 +2,12 @@
 use Rattle.std.proofs.Common.{◌≡◌, ◌++◌, drop, length, sym, ap, arith, subst, take, ◌∙◌}
 use Rattle.std.proofs.Math.Seq.{take-append_seam}
 use Rattle.std.proofs.lemmas.Grind.{common_steps}
-use Rattle.std.proofs.lemmas.List.{length-map}
-use Rattle.std.proofs.lemmas.List.Sorted.{length_permutation}
 use Rattle.std.specs.List.Sorted.{IsPermutation}
 use Rattle.salvaging.specs.Entries.{AreEntries}
 use Rattle.salvaging.specs.Far.{numbers_of}
-use Rattle.salvaging.specs.steps.Ahead.{ArePlaced}
-use Rattle.salvaging.specs.steps.Arrivals.{AreOrdered, arrival_of, arrivals_in, placed_from}
+use Rattle.salvaging.specs.steps.Arrivals.{AreOrdered, arrivals_in, placed_from}
 use Rattle.salvaging.specs.steps.Grouping.{entries_by}
-use Rattle.salvaging.proofs.Distributed.{length-placed}
-use Rattle.salvaging.proofs.FarLaws.{placed_of}
+use Rattle.salvaging.proofs.FarLaws.{placed_in_order}
 use Rattle.salvaging.proofs.GroupedMessages.{entries_of_messages}
 use Rattle.salvaging.proofs.far.far_numbers.Goals.{After-as_slice-ordered}
 use Rattle.salvaging.proofs.far.far_numbers.Goals as goal
@@ -38,13 +34,6 @@ module _ (g : _) (c : After-as_slice-ordered g) where
   entries : AreEntries c.args.messages.now (entries_by (arrivals_in c.as_slice-ordered.result.now))
   entries = entries_of_messages c.args.messages.now (arrivals_in c.as_slice-ordered.result.now) moved ordered
 
-  long : length c.args.messages.now ≡ length c.as_slice-ordered.result.now
-  long =
-      let placed = length-placed 0 c.args.messages.now in
-      let same = length_permutation (placed_from 0 c.args.messages.now) (arrivals_in c.as_slice-ordered.result.now) moved in
-      let all = length-map c.as_slice-ordered.result.now arrival_of in
-      omega (arith, placed, same, all)
-
 pub far_flags-requires-clause-rising : goal.far_flags-requires-clause-rising
 far_flags-requires-clause-rising g c =
     let at = goal.at.far_flags-requires-clause-rising g c in (entries g at.After-as_slice-ordered).rising
@@ -52,9 +41,8 @@ far_flags-requires-clause-rising g c =
 pub far_flags-requires-clause-placed : goal.far_flags-requires-clause-placed
 far_flags-requires-clause-placed g c =
     let at = goal.at.far_flags-requires-clause-placed g c in
-    let all = entries_by (arrivals_in c.as_slice-ordered.result.now) in
-    subst (λ n. ArePlaced n all) (long g at.After-as_slice-ordered)
-    (placed_of c.args.messages.now all (entries g at.After-as_slice-ordered))
+    placed_in_order c.args.messages.now c.as_slice-ordered.result.now (moved g at.After-as_slice-ordered)
+    (ordered g at.After-as_slice-ordered)
 
 pub returns : goal.returns
 returns g c =

@@ -1,9 +1,8 @@
 -- The entries so far and one before them are a lemma on lists.
-use Rattle.std.proofs.Common.{◌≡◌, refl, take, ap, ◌∙◌}
+use Rattle.std.proofs.Common.{◌≡◌, refl, take}
 use Rattle.salvaging.specs.Late.{counted}
 use Rattle.salvaging.specs.steps.Arrivals.{arrivals_in}
 use Rattle.salvaging.specs.steps.Grouping.{entries_by, entry_of}
-use Rattle.salvaging.specs.steps.Lateness.{earliest_with}
 use Rattle.salvaging.proofs.LateSteps.{late_before, late_if, none_late_if}
 use Rattle.salvaging.proofs.late.late.Goals.{then-is_late_behind, else-is_late_behind}
 use Rattle.salvaging.proofs.late.late.Goals as goal
@@ -19,8 +18,8 @@ loop-entry-preserved c =
     ] in
     let rest = c.loop-entry.rest.now in
     let front = entries_by (arrivals_in (take c.in-Some.front rest)) in
-    late_before (entries_by (arrivals_in c.args.came.now)) c.args.verdicts.now count c.loop-entry.first
-    (entries_by (arrivals_in rest)) c.loop-entry.at c.loop-entry.invariant front (entry_of c.in-Some.entry)
-    c.in-Some.ensures.last _ _ refl late c.is_late_behind.ensures new new_is c.earliest_with-first.result
-    (c.earliest_with-first.ensures
-    ∙ ap (λ b. earliest_with (entry_of c.in-Some.entry) b c.loop-entry.first) c.is_good.ensures)
+    late_before (entries_by (arrivals_in c.args.came.now)) c.args.verdicts.now c.args.far.now c.requires.far count
+    c.loop-entry.first (entries_by (arrivals_in rest)) c.loop-entry.at c.loop-entry.invariant front (entry_of c.in-Some.entry)
+    c.in-Some.ensures.last _ _ refl _ _ refl c.is_good.result c.is_good.ensures c.is_believed-believed.result
+    c.is_believed-believed.ensures late c.is_late_behind.ensures new new_is c.earliest_with-first.result
+    c.earliest_with-first.ensures

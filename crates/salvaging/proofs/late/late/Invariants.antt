@@ -7,7 +7,7 @@ use Rattle.salvaging.proofs.late.late.Given as goal
 
 abbrev pub invariant-loop-entry : goal.invariant-loop-entry
 invariant-loop-entry l =
-    LateSo (entries_by (arrivals_in l.came)) l.verdicts l.count l.first (entries_by (arrivals_in l.rest)) l.at
+    LateSo (entries_by (arrivals_in l.came)) l.verdicts l.far l.count l.first (entries_by (arrivals_in l.rest)) l.at
 
 abbrev pub decreases-loop-entry : goal.decreases-loop-entry
 decreases-loop-entry l = length l.rest

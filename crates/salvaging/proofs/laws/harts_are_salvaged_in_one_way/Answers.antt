@@ -1,5 +1,5 @@
 -- The law is a recursion over the entries of the messages, which no search makes.
-use Rattle.salvaging.proofs.OneWay.{salvaged_once}
+use Rattle.salvaging.proofs.SalvagedOnce.{salvaged_once}
 use Rattle.salvaging.proofs.laws.harts_are_salvaged_in_one_way.Goals as goal
 
 pub returns : goal.returns

@@ -6,12 +6,16 @@ use Rattle.salvaging.specs.Salvaged.{IsSalvaged}
 use Rattle.salvaging.specs.declared.salvaged.Salvaged.{Salvaged}
 use Rattle.salvaging.proofs.AllLogs.{logs_salvaged}
 use Rattle.salvaging.proofs.CollectedToo.{all_collected}
-use Rattle.salvaging.proofs.DistributedAll.{all_salvaged, distributed_small}
+use Rattle.salvaging.proofs.DistributedAll.{all_salvaged, distributed_placed, distributed_small}
 use Rattle.salvaging.proofs.salvaging.salvage_watched.Goals as goal
 
-pub salvage_each-requires : goal.salvage_each-requires
-salvage_each-requires g c =
+pub salvage_each-requires-clause-numbers : goal.salvage_each-requires-clause-numbers
+salvage_each-requires-clause-numbers g c =
     distributed_small c.args.messages.now c.in_ok-lists.lists.items c.in_ok-lists.ensures.each
+
+pub salvage_each-requires-clause-places : goal.salvage_each-requires-clause-places
+salvage_each-requires-clause-places g c =
+    distributed_placed c.args.messages.now c.in_ok-lists.lists.items c.in_ok-lists.ensures.each
 
 pub returns-clause-logs : goal.returns-clause-logs
 returns-clause-logs g c = λ period own logs of_logs many.

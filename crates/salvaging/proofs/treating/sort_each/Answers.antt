@@ -6,9 +6,9 @@ use Rattle.std.specs.declared.vec.Vec.{Vec}
 use Rattle.rvclass.specs.Fetch.{words_of}
 use Rattle.losses.proofs.Ending.{left_behind}
 use Rattle.salvaging.specs.steps.SortedOut.{IsSortedOut}
-use Rattle.salvaging.specs.steps.Arrivals.{arrivals_in}
+use Rattle.salvaging.specs.steps.Arrivals.{HaveNumbers, HavePlaces, arrivals_in}
 use Rattle.salvaging.specs.declared.received.ReceivedMessage.{ReceivedMessage}
-use Rattle.salvaging.proofs.SalvagedEach.{next_numbers, one_more_hart}
+use Rattle.salvaging.proofs.SalvagedEach.{next_list, one_more_hart}
 use Rattle.salvaging.proofs.treating.sort_each.Goals as goal
 
 pub loop-hart-preserved : goal.loop-hart-preserved
@@ -57,4 +57,20 @@ sort_out-requires-clause-numbers g c =
     let within : i < length lists = omega (arith, test, end, lists_count, counted) in
     let at : slice_get first i ≡ Some list = inv.left i list (omega arith)
     (slice_get_read lists (length lists) i list refl within c.index_mut.ensures.value) in
-    next_numbers first i list c.replace-came.result c.requires at c.replace-came.ensures.value
+    next_list HaveNumbers first i list c.replace-came.result c.requires.numbers at c.replace-came.ensures.value
+
+pub sort_out-requires-clause-places : goal.sort_out-requires-clause-places
+sort_out-requires-clause-places g c =
+    let i = c.loop-hart.hart in
+    let inv = c.loop-hart.invariant in
+    let first = c.args.lists.now.items in
+    let lists = c.loop-hart.lists.items in
+    let list = c.index_mut.result.now in
+    let test = c.loop-hart-test.true in
+    let end = c.loop-hart.auto.hart-end in
+    let lists_count = inv.lists_count in
+    let counted = c.args.lists.now.ok.0 in
+    let within : i < length lists = omega (arith, test, end, lists_count, counted) in
+    let at : slice_get first i ≡ Some list = inv.left i list (omega arith)
+    (slice_get_read lists (length lists) i list refl within c.index_mut.ensures.value) in
+    next_list HavePlaces first i list c.replace-came.result c.requires.places at c.replace-came.ensures.value

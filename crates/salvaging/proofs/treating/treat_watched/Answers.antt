@@ -1,13 +1,17 @@
 -- What is done with all is put together by lemmas.
 use Rattle.std.proofs.Common.{◌≡◌, Some, length, slice_get, ap, subst, ◌∙◌}
 use Rattle.rvclass.specs.Fetch.{words_of}
-use Rattle.salvaging.proofs.DistributedAll.{distributed_small}
+use Rattle.salvaging.proofs.DistributedAll.{distributed_placed, distributed_small}
 use Rattle.salvaging.proofs.TreatedAll.{all_sorted}
 use Rattle.salvaging.proofs.treating.treat_watched.Goals as goal
 
-pub sort_each-requires : goal.sort_each-requires
-sort_each-requires g c =
+pub sort_each-requires-clause-numbers : goal.sort_each-requires-clause-numbers
+sort_each-requires-clause-numbers g c =
     distributed_small c.args.messages.now c.in_ok-lists.lists.items c.in_ok-lists.ensures.each
+
+pub sort_each-requires-clause-places : goal.sort_each-requires-clause-places
+sort_each-requires-clause-places g c =
+    distributed_placed c.args.messages.now c.in_ok-lists.lists.items c.in_ok-lists.ensures.each
 
 pub treat_each-requires : goal.treat_each-requires
 treat_each-requires g c =

@@ -1,5 +1,5 @@
 -- A hart is worked through by the steps, which lemmas put together.
-use Rattle.std.proofs.Common.{◌≡◌, ◌<◌, ◌++◌, drop, length, map, take, sym, ap, subst, ◌∙◌, arith}
+use Rattle.std.proofs.Common.{◌≡◌, ◌<◌, ◌≤◌, ◌++◌, drop, length, map, take, sym, ap, subst, ◌∙◌, arith}
 use Rattle.std.proofs.Math.Seq.{take-append_seam}
 use Rattle.std.proofs.lemmas.Grind.{common_steps}
 use Rattle.std.proofs.lemmas.List.Sorted.{All-permutation}
@@ -13,6 +13,7 @@ use Rattle.salvaging.specs.steps.Arrivals.{Arrival, AreOrdered, HaveNumbers, arr
 use Rattle.salvaging.specs.steps.Ending.{TakesBeyond}
 use Rattle.salvaging.specs.steps.Grouping.{AreSmall, entries_by}
 use Rattle.salvaging.proofs.CutLemmas.{mode_of_front, rising_front, small_front}
+use Rattle.salvaging.proofs.FarLaws.{placed_in_order}
 use Rattle.salvaging.proofs.GroupedEntries.{entries_are}
 use Rattle.salvaging.proofs.HartSalvaged.{hart_does, hart_left, hart_marks, hart_shares, worked_in}
 use Rattle.salvaging.proofs.SmallEntries.{entries_small}
@@ -51,6 +52,19 @@ module _ (g : _) (c : After-as_slice-ordered g) where
       All-permutation (λ (one : Arrival). one.message.number < end_of_numbers) (arrivals_in c.args.came.items)
       (arrivals_in c.as_slice-ordered.result.now) moved c.requires.numbers in
       entries_small (arrivals_in c.as_slice-ordered.result.now) have
+
+pub far_flags-requires-clause-rising : goal.far_flags-requires-clause-rising
+far_flags-requires-clause-rising g c =
+    let at = goal.at.far_flags-requires-clause-rising g c in rises g at.After-as_slice-ordered
+
+pub far_flags-requires-clause-placed : goal.far_flags-requires-clause-placed
+far_flags-requires-clause-placed g c =
+    let at = goal.at.far_flags-requires-clause-placed g c in
+    let list = c.as_slice-ordered.result.now in
+    let messages = c.requires.places in
+    placed_in_order messages.0 list
+    (subst (λ l. IsPermutation l (arrivals_in list)) messages.1 (moved g at.After-as_slice-ordered))
+    (ordered g at.After-as_slice-ordered)
 
 pub count_to_end-requires : goal.count_to_end-requires
 count_to_end-requires g c =
@@ -105,4 +119,7 @@ returns-clause-worked g c =
       does = hart_does g.M.Mark.kept words own upto beyond taken new t b;
       marks = hart_marks g.M.Mark.kept words own upto beyond taken new t b;
       closed = c.is_closed-closed.ensures;
+      are_far = c.in_ok-far.ensures;
+      within = subst (λ l. end ≤ length l) c.as_slice-ordered.ensures.value c.in_ok-end.ensures.within;
+      upto_is = ap (λ l. entries_by (arrivals_in (take end l))) c.as_slice-ordered.ensures.value;
     })

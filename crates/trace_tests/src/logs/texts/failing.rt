@@ -88,14 +88,19 @@ fn writer_fails_at_each_call(rt: HostRuntime) {
 
 #[test]
 fn memory_is_refused(rt: HostRuntime) {
-    let heap = LocalHeap::new(rt.alloc(), 0).expect(&rt, "memory");
+    let alloc = rt.alloc();
+    let heap = LocalHeap::new(alloc, 0).expect(&rt, "memory");
     let text = text_of_rows(&rt, ROW, 1);
-    let read = read_log(&heap, rt.alloc(), text.as_slice()).err();
-    same_at(&rt, "read", read, Some(LogFault::Memory));
-    let in_memory = read_log_from_slice(&heap, rt.alloc(), text.as_slice()).err();
-    same_at(&rt, "in memory", in_memory, Some(LogFault::Memory));
-    let mut sink = Vec::new(rt.alloc());
+    let read = read_log(&heap, alloc, text.as_slice()).err();
+    let in_memory = read_log_from_slice(&heap, alloc, &text).err();
+    let mut sink = Vec::new(alloc);
     let written = write_log(&heap, &mut sink, &[RETIRED]).err();
-    same_at(&rt, "written", written, Some(WriteFault::Memory));
-    same_at(&rt, "sink", sink.len(), 0);
+    let fault = Some(LogFault::Memory);
+    let wanted = (fault, fault, Some(WriteFault::Memory), 0);
+    same_at(
+        &rt,
+        "no memory",
+        (read, in_memory, written, sink.len()),
+        wanted,
+    );
 }

@@ -70,10 +70,10 @@ fn is_same<R: Threads + Sync + Abort + AllocGlobal, P: Debug + Copy + Drop>(
         let mut got = Vec::new(rt.alloc());
         let ended = write_shared(rt, *sharing, program, harts, capture, &told, &mut got);
         let ended = ended.expect(rt, "memory");
-        same_at(rt, (at, got.len(), wanted.len()), got == wanted, true);
-        let are_closed = ended.closed == wanted_end.closed;
-        same_at(rt, at, (are_closed, told.ends.get()), (true, 1));
-        same_at(rt, at, ended.fault, wanted_end.fault);
+        let are_same = (got == wanted, ended.closed == wanted_end.closed);
+        let found = (are_same, told.ends.get(), ended.fault);
+        let wanted = ((true, true), 1, wanted_end.fault);
+        same_at(rt, (at, got.len()), found, wanted);
     }
 }
 
@@ -152,10 +152,10 @@ fn holds_a_prefix<R: Threads + Sync + Abort + AllocGlobal>(
         calls: at.0,
     };
     let fault = write_shared(rt, at.1, program, 2, capture, &Told::new(), &mut out).err();
-    same_at(rt, at, fault, Some(WriteFault::Write));
     let held = out.held.as_slice();
-    let found = (whole.starts_with(held), held.is_empty());
-    same_at(rt, (at, held.len()), found, (true, at.0 == 0));
+    let found = (fault, whole.starts_with(held), held.is_empty());
+    let wanted = (Some(WriteFault::Write), true, at.0 == 0);
+    same_at(rt, (at, held.len()), found, wanted);
 }
 
 /// It holds none, a part of the first stretch, and of the second hart.
@@ -207,7 +207,6 @@ fn output_is_slow(rt: HostRuntime) {
         };
         let told = Told::new();
         let fault = write_shared(&rt, sharing, &program, 60, &capture, &told, &mut out).err();
-        same_at(&rt, sharing, fault, None);
-        same_at(&rt, sharing, out.held == whole, true);
+        same_at(&rt, sharing, (fault, out.held == whole), (None, true));
     }
 }

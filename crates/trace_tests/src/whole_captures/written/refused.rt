@@ -16,6 +16,7 @@ use rvclass::Program;
 use std::io;
 use std::io::{ErrorKind, Write};
 use std::process::Abort;
+use std::thread::Threads;
 
 /// The requests of the first pass: for what is kept of the harts, for the list of places, for the places of each of the
 /// two harts, and for their flags.
@@ -33,8 +34,7 @@ fn are_refused<R: Abort + AllocGlobal>(rt: &R, program: &Program, capture: &[u8]
         let heap = Refusing::new(rt.alloc(), place);
         let failed = survey_capture(&heap, &asked, &NoProgress).is_err();
         let refused = place < REQUESTS;
-        same_at(rt, place, heap.has_refused(), refused);
-        same_at(rt, place, failed, refused);
+        same_at(rt, place, (heap.has_refused(), failed), (refused, refused));
     }
 }
 
@@ -77,36 +77,51 @@ impl Write for Late<'_> {
     }
 }
 
+/// Ends the test unless nothing is written of a capture before the first pass was told to have ended, and then all.
+fn ends_before<R: Threads + Sync + Abort + AllocGlobal>(rt: &R, program: &Program, capture: &[u8]) {
+    let (whole, _) = written(rt, program, 2, capture);
+    let told = Told::new();
+    let mut out = Late {
+        told: &told,
+        held: Vec::new(rt.alloc()),
+    };
+    let fault = write_shared(rt, (1, 0), program, 2, capture, &told, &mut out).err();
+    let found = (fault, out.held.as_slice());
+    same_at(rt, capture.len(), found, (None, whole.as_slice()));
+}
+
 #[test]
 fn the_first_pass_ends_before_the_first_row(rt: HostRuntime) {
     let program = program_of(&rt, BRANCH_LOOP);
     for capture in [CAPTURE.as_slice(), &FULL, &CAPTURE[..70], &[1], &[]] {
-        let (whole, _) = written(&rt, &program, 2, capture);
-        let told = Told::new();
-        let mut out = Late {
-            told: &told,
-            held: Vec::new(rt.alloc()),
-        };
-        let fault = write_shared(&rt, (1, 0), &program, 2, capture, &told, &mut out).err();
-        same_at(&rt, capture.len(), fault, None);
-        same_at(&rt, capture.len(), out.held.as_slice(), whole.as_slice());
+        ends_before(&rt, &program, capture);
     }
 }
 
-/// An output that takes a byte a call, and fails after this many calls, holds as many bytes of the text.
+/// Ends the test unless an output that takes a byte a call, and fails after this many calls, holds as many bytes of the
+/// text.
+fn holds_bytes<R: Threads + Sync + Abort + AllocGlobal>(
+    rt: &R,
+    program: &Program,
+    whole: &[u8],
+    calls: usize,
+) {
+    let mut out = FailingWriter {
+        held: Vec::new(rt.alloc()),
+        most: 1,
+        calls,
+    };
+    let fault = write_shared(rt, (1, 0), program, 2, &CAPTURE, &Told::new(), &mut out).err();
+    let fails = calls < whole.len();
+    let wanted = (fails.then_some(WriteFault::Write), whole.get(..calls));
+    same_at(rt, calls, (fault, Some(out.held.as_slice())), wanted);
+}
+
 #[test]
 fn output_fails_at_each_byte(rt: HostRuntime) {
     let program = program_of(&rt, BRANCH_LOOP);
     let (whole, _) = written(&rt, &program, 2, &CAPTURE);
     for calls in 0..whole.len().saturating_add(1) {
-        let mut out = FailingWriter {
-            held: Vec::new(rt.alloc()),
-            most: 1,
-            calls,
-        };
-        let fault = write_shared(&rt, (1, 0), &program, 2, &CAPTURE, &Told::new(), &mut out).err();
-        let fails = calls < whole.len();
-        same_at(&rt, calls, fault, fails.then_some(WriteFault::Write));
-        same_at(&rt, calls, Some(out.held.as_slice()), whole.get(..calls));
+        holds_bytes(&rt, &program, &whole, calls);
     }
 }

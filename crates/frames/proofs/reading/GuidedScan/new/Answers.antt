@@ -1,5 +1,5 @@
 -- Messages are found each at its place: by lemmas on messages among bytes.
-use Rattle.std.proofs.Common.{◌≤◌, ◌∙◌, drop, ap, arith}
+use Rattle.std.proofs.Common.{◌∙◌, drop, ap, arith}
 use Rattle.std.proofs.lemmas.List.{length-drop}
 use Rattle.frames.specs.Passages.{spans_from}
 use Rattle.frames.proofs.AmidLemmas.{amid, complete}

@@ -1,25 +1,12 @@
 -- The clause holds for any events before, which the search does not instantiate.
-use Rattle.std.proofs.Common.{◌∷◌, [], arith, length-append, subst, sym}
-use Rattle.std.proofs.lemmas.List.Elements.{All-append}
-use Rattle.retire.specs.Is64Bit.{Is64Bit}
-use Rattle.legalpath.specs.Passed.{HasPassed}
-use Rattle.rvclass.specs.Fetch.{words_of}
+use Rattle.std.proofs.Common.{arith}
+use Rattle.stimulus.proofs.WalkLemmas.{walks_on}
 use Rattle.stimulus.proofs.hart.Hart.next_event.Goals as goal
 
-pub returns-then-rows : goal.returns-then-rows
-returns-then-rows c = λ seen has.
-    record { passed = has.passed; numbers = has.numbers; short = has.short }
+pub returns-then-self-clause-walks : goal.returns-then-self-clause-walks
+returns-then-self-clause-walks c = λ start seen has. (has, omega (arith, has.counted, c.if-self.true))
 
-pub returns-in-Ok : goal.returns-in-Ok
-returns-in-Ok c = λ seen has. record {
-  passed = c.in-Ok.ensures.passed seen has.passed;
-  numbers = All-append Is64Bit seen (c.propose-event.result ∷ []) has.numbers c.in-Ok.ensures.numbers;
-  short = omega (arith, has.passed.counted, c.rows.ensures, length-append seen (c.propose-event.result ∷ []));
-}
-
-pub returns-in-Err : goal.returns-in-Err
-returns-in-Err c = λ seen has. record {
-  passed = subst (HasPassed (words_of c.args.program.now) seen) (sym c.in-Err.ensures.refused) has.passed;
-  numbers = has.numbers;
-  short = has.short;
-}
+pub returns-clause-walks : goal.returns-clause-walks
+returns-clause-walks c = λ start seen has.
+    walks_on c.args.program.now start seen c.args.self.now c.step.result c.step.new.self has
+    c.step.ensures.event c.step.ensures.numbers (omega (arith, c.if-self.false))

@@ -4,15 +4,15 @@ use Rattle.stimulus.proofs.TraceLemmas.{closes}
 use Rattle.stimulus.proofs.sender.Tracer.close.Goals as goal
 
 pub returns-clause-given : goal.returns-clause-given
-returns-clause-given c = λ period mode given has.
+returns-clause-given c = λ plan number given has.
     let words = words_of c.args.program.now in
-    let kept = c.state.ensures.stands words period mode has.seen has.stands in
-    closes words period mode given c.args.self.now c.requires has c.finish.result.items
-    (c.finish.ensures.packets period mode has.seen (c.from_state.ensures.stands words period mode has.seen kept))
+    let kept = c.state.ensures.stands words plan.period plan.mode has.seen has.stands in
+    closes words plan number given c.args.self.now c.requires has c.finish.result.items
+    (c.finish.ensures.packets plan.period plan.mode has.seen (c.from_state.ensures.stands words plan.period plan.mode has.seen kept))
 
 pub returns-clause-profile : goal.returns-clause-profile
-returns-clause-profile c = λ period mode given has.
+returns-clause-profile c = λ plan number given has.
     let words = words_of c.args.program.now in
-    let kept = c.state.ensures.stands words period mode has.seen has.stands in
-    c.finish.ensures.profile period mode has.seen (c.from_state.ensures.stands words period mode has.seen kept)
-    has.walked.passed.legal
+    let kept = c.state.ensures.stands words plan.period plan.mode has.seen has.stands in
+    c.finish.ensures.profile plan.period plan.mode has.seen (c.from_state.ensures.stands words plan.period plan.mode has.seen kept)
+    has.walked.legal
