@@ -106,7 +106,7 @@ class Examples(unittest.TestCase):
     def test_each_call_has_one_that_compiles(self):
         found = examples()
         self.assertEqual(set(headers.contracts("ffi")) - set(found), set())
-        self.assertEqual(len(found), 28 + 6)
+        self.assertEqual(len(found), 27 + 6)
         compilers = ("cc", "-std=c11", "-x", "c"), ("c++", "-std=c++17", "-x", "c++")
         for compiler in (compiler for compiler in compilers if shutil.which(compiler[0])):
             for name, (_, example) in found.items():
