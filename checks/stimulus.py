@@ -6,13 +6,16 @@
     python3 checks/stimulus.py cases
     python3 checks/stimulus.py runs
     python3 checks/stimulus.py mixed
+    python3 checks/stimulus.py calls
+    python3 checks/stimulus.py example
     python3 checks/stimulus.py table
 
 The first three write images, logs and captures of version 2, at base 80000000. The fourth writes the lines of
 crates/path_vectors/data/stimuli.cases that have an answer, the fifth the runs with an output of
 crates/transcripts/data/generate.transcript, and the sixth the runs of `encode --mixed` of
-crates/transcripts/data/several_logs.transcript, by the messages that stand there. The last writes the table of
-docs/FORMATS.md of what comes in the first 20,000 events.
+crates/transcripts/data/several_logs.transcript, by the messages that stand there. The next two write
+crates/ffi_vectors/data/generated.cases and examples/c/expected_stimulus.txt, and the last the table of docs/FORMATS.md
+of what comes in the first 20,000 events.
 """
 import itertools
 import os
@@ -143,62 +146,75 @@ def program(mix, seed, base):
     return at
 
 
-def events(mix, seed, hart, count, base=0x80000000):
-    """The events of a hart: retirements as (addr, itype, priv), traps as (epc, itype, priv, cause, tval)."""
-    at = program(mix, seed, base)
-    traps, nested, interrupts, shortened = HABITS[mix]
-    draws = Pcg32(seed, 0x10000 + hart)
-    draw = draws.draw
+class Walk:
+    """A hart that runs a program: where it is, whether the next event may be anywhere, its level, and its draws."""
 
-    def land():
-        return base + draw() % (4 * SLOTS) // 4 * 4
+    def __init__(self, mix, seed, hart, base):
+        self.at, self.base, self.habits = program(mix, seed, base), base, HABITS[mix]
+        self.draws = Pcg32(seed, 0x10000 + hart)
+        self.draw = self.draws.draw
+        self.land()
+        self.now = self.level(3)
 
-    def level(greatest):
+    def land(self):
+        self.place, self.free = self.base + self.draw() % (4 * SLOTS) // 4 * 4, True
+
+    def level(self, greatest):
         if greatest < 3:
-            return draw() % 2
-        return (0, 1, 3)[draw() % 3]
+            return self.draw() % 2
+        return (0, 1, 3)[self.draw() % 3]
 
-    def number(most):
-        low, high = draw(), draw()
-        return (high << 32 | low) >> draw() % (most + 1)
+    def number(self, most):
+        low, high = self.draw(), self.draw()
+        return (high << 32 | low) >> self.draw() % (most + 1)
 
-    place, free = land(), True
-    now = level(3)
-    for _ in range(count) if count is not None else itertools.count():
-        target, trap = None, None
-        if draw() % 65536 < (nested if free else traps):
-            word = draw()
-            epc = number(63) & ~1 if free and word // 256 % 2 == 0 else place
+    def trap(self):
+        """The trap that comes now, if one does."""
+        traps, nested, interrupts, shortened = self.habits
+        place, now = self.place, self.now
+        if self.draw() % 65536 < (nested if self.free else traps):
+            word = self.draw()
+            epc = self.number(63) & ~1 if self.free and word // 256 % 2 == 0 else place
             if word % 256 < interrupts:
-                trap = epc, 2, now, word // 1024 % 16, 0
-            else:
-                trap = epc, 1, now, word // 1024 % 64, number(shortened)
-        elif place not in at:
-            trap = place, 1, now, 1, place
-        else:
-            name, length, target = at[place]
-            if name == "call":
-                trap = place, 1, now, 8 + now, 0
-            elif name == "mret" and now != 3 or name == "sret" and now == 0:
-                trap = place, 1, now, 2, 0
+                return epc, 2, now, word // 1024 % 16, 0
+            return epc, 1, now, word // 1024 % 64, self.number(shortened)
+        if place not in self.at:
+            return place, 1, now, 1, place
+        name = self.at[place][0]
+        if name == "call":
+            return place, 1, now, 8 + now, 0
+        if name == "mret" and now != 3 or name == "sret" and now == 0:
+            return place, 1, now, 2, 0
+        return None
+
+    def next(self):
+        """The next event and its class: a retirement (addr, itype, priv) or a trap (epc, itype, priv, cause, tval)."""
+        place, now = self.place, self.now
+        trap = self.trap()
         if trap:
-            yield trap, "trap"
-            place, free = land(), True
+            self.land()
             if now != 3:
-                now = 3 if draw() % 2 == 0 else 1
-            continue
+                self.now = 3 if self.draw() % 2 == 0 else 1
+            return trap, "trap"
+        name, length, target = self.at[place]
         if name == "branch":
-            taken = draw() % 256 < (240 if target <= place else 128) or place + length not in at
-            yield (place, 5 if taken else 4, now), name
-            place, free = target if taken else place + length, False
-        elif name == "plain" or name == "jump":
-            yield (place, 0, now), name
-            place, free = target if name == "jump" else place + length, False
-        else:
-            yield (place, 6 if name == "computed" else 3, now), name
-            place, free = land(), True
-            if name != "computed":
-                now = level(3 if name == "mret" else 1)
+            taken = self.draw() % 256 < (240 if target <= place else 128) or place + length not in self.at
+            self.place, self.free = target if taken else place + length, False
+            return (place, 5 if taken else 4, now), name
+        if name == "plain" or name == "jump":
+            self.place, self.free = target if name == "jump" else place + length, False
+            return (place, 0, now), name
+        self.land()
+        if name != "computed":
+            self.now = self.level(3 if name == "mret" else 1)
+        return (place, 6 if name == "computed" else 3, now), name
+
+
+def events(mix, seed, hart, count, base=0x80000000):
+    """The events of a hart, each with its class."""
+    walk = Walk(mix, seed, hart, base)
+    for _ in range(count) if count is not None else itertools.count():
+        yield walk.next()
 
 
 def row(event):
@@ -334,21 +350,24 @@ def capture(mix, seed, harts, messages, period=1024, full=False, burst=16):
         return b"".join(wire.message(hart, next(numbers[hart]), payload) for _, payload in packets)
 
     draw, listed = weighed(seed, harts)
-    ended, hart, left, ending = set(), 0, 0, min(max(messages // 16, 256), 0xFFFFFFFF)
+    # Half of the harts may close before the last turn, and one of so many bursts has one close.
+    closed, hart, left, may_close = set(), 0, 0, harts // 2
+    ending = min(max(messages // max(harts * (burst + 1) // 2, 1), 1), 0xFFFFFFFF)
     yield wire.header(harts, period, int(full))
     for _ in range(messages):
         if left:
             left -= 1
         else:
-            if draw() % ending == 0 and set(listed) != {hart}:
+            if may_close and draw() % ending == 0:
                 yield sent(hart, senders[hart].close())
-                ended.add(hart)
+                closed.add(hart)
+                may_close -= 1
                 listed = [other for other in listed if other != hart]
             hart = listed[draw() % len(listed)]
             left = draw() % burst
         yield sent(hart, [senders[hart].send()])
     for hart, sender in enumerate(senders):
-        if hart not in ended:
+        if hart not in closed:
             yield sent(hart, sender.close())
 
 
@@ -426,6 +445,8 @@ def cases():
     captures = [(mix, seed, 4, 3000, 64, False, 16) for mix in SLOTS_OF for seed in range(1, 4)]
     captures += [("mixed", 2, 4, 20000, 64, False, 1), ("mixed", 1, 1, 100, 1, True, 1), ("mixed", 1, 1024, 2000, 1024, True, 3), ("mixed", 1, 2, 0, 64, False, 16)]
     captures += [("mixed", 77, 5, 6000, 1024, True, 16)]
+    captures += [("mixed", seed, 4, 3000, 64, False, burst) for seed in (4, 5, 6) for burst in (1, 2, 64)]
+    captures += [("mixed", seed, 64, 3000, 64, False, burst) for seed, burst in ((1, 1), (2, 16), (3, 64))]
     for asked in captures:
         *words, full, burst = asked
         print("mixed-capture", *words, "full" if full else "diff", burst, "->", sum_of(b"".join(capture(*asked))))
@@ -497,6 +518,79 @@ def mixed_runs():
     run(" --of 7", 4, 3, header=wire.header(7, 1024, 0))
 
 
+def fields(**numbers):
+    """A struct of the library for C, as its cases have it."""
+    return "{%s}" % ",".join(f"{name}={number}" if number < 1 << 24 else f"{name}={number:#x}"
+                             for name, number in numbers.items() if number)
+
+
+def numbers_of(event):
+    if len(event) == 3:
+        return fields(itype=event[1], privilege=event[2], address=event[0])
+    epc, itype, privilege, cause, value = event
+    return fields(kind=1, privilege=privilege, cause=cause, interrupt=int(itype == 2), address=epc, tval=value)
+
+
+def calls():
+    """Calls of the library for C that generate images and events."""
+    print("# Images and events that are generated. These lines are those of `checks/stimulus.py calls`.\n")
+    names = list(SLOTS_OF)
+    made = {}
+    for place, mix in enumerate(names):
+        own = image(mix, 1).hex()
+        if own not in made:
+            print("bytes", made.setdefault(own, mix), own)
+        print(f"generate_image mix={place} seed=1 due={made[own]} -> status=0 wanted=4096 due")
+    images = [made[image(mix, 1).hex()] for mix in names]
+    for place, seed in itertools.product(range(len(names)), (0, 2, MASK)):
+        own = image(names[place], seed)
+        print(f"generate_image mix={place} seed={seed:#x} show=24 -> status=0 wanted=4096 bytes={own[:24].hex()}")
+        print(f"generate_image mix={place} seed={seed:#x} last=8 -> status=0 wanted=4096 bytes={own[-8:].hex()}")
+    for place in 6, 1 << 16, 0xFFFFFFFF:
+        print(f"generate_image mix={place:#x} seed=1 -> status=4")
+
+    print("\n# Each call goes on from the state that the one before left.")
+    for place, mix in enumerate(names):
+        for hart, base in (0, 0x80000000), (1023, 0x7FFFFFFFFFFFF000), (65535, 0):
+            walk = Walk(mix, 1, hart, base)
+            print("let w", fields(seed=1, mix=place, hart=hart))
+            for words in "room=1", "room=4", "room=0", "cut=2048 room=6", "room=1000 last=2", "room=20000 last=1":
+                last = words.split("last=")[1:]
+                came = [walk.next()[0] for _ in range(int(words.split("room=")[1].split()[0]))]
+                came = [(len(list(own)), event) for event, own in itertools.groupby(came[-int(last[0]):] if last else came)]
+                state = fields(seed=1, random=walk.draws.state, at=walk.place, mix=place, hart=hart, privilege=walk.now,
+                               next=1 if walk.free else 2)
+                said = ";".join((f"{count}*" if count > 1 else "") + numbers_of(event) for count, event in came)
+                print(f"generate_events state=w base={base:#x} image={images[place]} {words} -> status=0" +
+                      (f" events={said} state={state}" if came else ""))
+
+    print("\n# A state that no walk has, and pieces that are no program.")
+    for state in "{mix=6}", "{mix=0xffffffff,next=1}", "{seed=1,next=3}", "{seed=1,next=255}":
+        print(f"generate_events state={state} base=1 image=mixed room=2 -> status=4")
+    for base, status in ("1", 48), ("0xfffffffffffff000", 50):
+        print(f"generate_events state={{seed=1}} base={base} image=mixed room=2 -> status={status}")
+    print("generate_events state={seed=1} pieces=16:mixed,0:mixed room=2 -> status=54")
+    print("generate_events state={seed=1} pieces=0:mixed,16:mixed room=2 -> status=51")
+
+
+def example():
+    """The messages of three harts that send the packets of 8 events in each of four turns."""
+    senders = [Sender("mixed", 1, hart, 64, False) for hart in range(3)]
+    numbers = [itertools.count() for _ in senders]
+
+    def say(hart, packets):
+        for _, payload in filter(None, packets):
+            print(hart, next(numbers[hart]), payload.hex())
+
+    for hart, sender in enumerate(senders):
+        say(hart, [sender.send()])
+    for _ in range(4):
+        for hart, sender in enumerate(senders):
+            say(hart, [sender.take(next(sender.events)) for _ in range(8)])
+    for hart, sender in enumerate(senders):
+        say(hart, sender.close())
+
+
 def main(what, seed=0, mix="mixed", *rest):
     seed = int(seed)
     if what == "cases":
@@ -505,6 +599,10 @@ def main(what, seed=0, mix="mixed", *rest):
         return runs()
     if what == "mixed":
         return mixed_runs()
+    if what == "calls":
+        return calls()
+    if what == "example":
+        return example()
     if what == "table":
         return table()
     if what == "image":

@@ -14,12 +14,12 @@
  *
  * TRACEBENCH_MEMORY comes only where an allocation failed. A call gives all memory back before it returns, and asks
  * the linked allocator alone. tracebench_encoder, tracebench_push_all, tracebench_finish, tracebench_check_events,
- * tracebench_decoder, tracebench_resume and the calls for one packet, message or header take none, but for the list of
- * the pieces where there are two or more. Time grows with the bytes, events and payloads that are given and settled,
- * not with the image; and with the square of the number of pieces. Once a packet is refused, the calls that salvage
- * make a table of 4 bytes for each byte of it. No proof bounds the stack: over logs of 200,000 rows and images of up to
- * 16 MiB calls took at most 19 kB of it. The library is built for x86-64-v2, 64-bit processors with SSE4.2 and POPCNT,
- * and does not check for them. */
+ * tracebench_generate_events, tracebench_decoder, tracebench_resume and the calls for one packet, message or header
+ * take none, but for the list of the pieces where there are two or more. Time grows with the bytes, events and
+ * payloads that are given and settled, not with the image; and with the square of the number of pieces. Once a packet
+ * is refused, the calls that salvage make a table of 4 bytes for each byte of it. No proof bounds the stack: over logs
+ * of 200,000 rows and images of up to 16 MiB calls took at most 19 kB of it. The library is built for x86-64-v2, 64-bit
+ * processors with SSE4.2 and POPCNT, and does not check for them. */
 #ifndef TRACEBENCH_H
 #define TRACEBENCH_H
 
@@ -324,6 +324,45 @@ static inline uint32_t tracebench_push_checked(const struct tracebench_piece *pi
     if (status != TRACEBENCH_DONE) return status;
     return tracebench_push(pieces, pieces_length, state, event, packets, packets_length, count);
 }
+
+/* Stimulus: what `tracebench generate` draws from a seed, for a path whose owner has no core. */
+
+/* What a program does, and how the harts behave that run it. */
+#define TRACEBENCH_MIXED 0u    /* loops, computed jumps, branches of both outcomes, all levels, and traps */
+#define TRACEBENCH_BRANCHES 1u /* branches alone */
+#define TRACEBENCH_JUMPS 2u    /* a computed jump at every second instruction */
+#define TRACEBENCH_TRAPS 3u    /* traps at a third of all events */
+#define TRACEBENCH_LONGEST 4u  /* traps with long values at three quarters of all events */
+#define TRACEBENCH_STRAIGHT 5u /* plain instructions, and few traps */
+
+/* Writes the image of the program that a mix and a seed give, as `tracebench generate image` does: 4,096 bytes. The
+ * status may be TRACEBENCH_OUT_OF_RANGE, where no mix has this number, or TRACEBENCH_MEMORY.
+ *     status = tracebench_generate_image(TRACEBENCH_MIXED, 1, image, sizeof image, &wanted); */
+uint32_t tracebench_generate_image(uint32_t mix, uint64_t seed, uint8_t *buffer, size_t buffer_length,
+                                   size_t *wanted);
+
+/* The walk of a hart through a program. Before its first event the seed, the mix and the hart are set, and the rest is
+ * 0. It may be copied, and goes on from each copy. A state that no call wrote is as it is: its events may be no legal
+ * log. `generate` has harts 0 to 1,023; here each number is a hart. */
+struct tracebench_walk_state {
+    uint64_t seed;     /* what all draws are decided by */
+    uint64_t random;   /* the state of the generator that the hart draws from */
+    uint64_t at;       /* where the next instruction is, if no trap comes before it */
+    uint32_t mix;      /* TRACEBENCH_MIXED to TRACEBENCH_STRAIGHT */
+    uint16_t hart;     /* the hart's number */
+    uint8_t privilege; /* that of the next event */
+    uint8_t next;      /* 0 before the first event, 1 where the next may be anywhere, 2 where it is at `at` */
+};
+
+/* Fills the buffer with the next events of a hart that runs the program, which are those of `tracebench generate log`.
+ * They are a legal log of the program, which may be any, as long as it is the same at each call. With
+ * tracebench_push_all and tracebench_write_message they become messages, of as many harts as there are states. Else
+ * nothing is written: TRACEBENCH_OUT_OF_RANGE for `mix` or `next`, or what is wrong with the pieces.
+ *     struct tracebench_walk_state hart_3 = {1, 0, 0, TRACEBENCH_MIXED, 3, 0, 0};
+ *     status = tracebench_generate_events(&program, 1, &hart_3, events, 64); */
+uint32_t tracebench_generate_events(const struct tracebench_piece *pieces, size_t pieces_length,
+                                    struct tracebench_walk_state *state, struct tracebench_event *events,
+                                    size_t events_length);
 
 /* Payloads in, their events out. */
 
@@ -730,7 +769,8 @@ struct tracebench_path_end {
  * `tracebench audit` prints. SENT is checked to its end first. In RECEIVED the messages are found among damaged bytes.
  * With TRACEBENCH_UNNUMBERED, as with `audit --unnumbered`, they are found by hart and payload, and the payloads of
  * each hart that came are matched in order with those that were sent. What was sent and is not matched is lost; what
- * came and is not matched is extra.
+ * came and is not matched is extra. Where both `lost` and `extra` of a hart are above 0, and above 256 together, more
+ * may match than is reported.
  *
  * A flag that is not known is TRACEBENCH_OUT_OF_RANGE. `rows` is for what is found of each hart, hart 0 first,
  * `arrivals` for the messages of RECEIVED that are taken, in their order, `lost` for the longest runs of numbers that

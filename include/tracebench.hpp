@@ -128,6 +128,16 @@ enum class salvage_format : std::uint32_t {
     Summary = TRACEBENCH_SUMMARY
 };
 
+/* What a program does that is generated, and how the harts behave that run it. */
+enum class mix : std::uint32_t {
+    Mixed = TRACEBENCH_MIXED,
+    Branches = TRACEBENCH_BRANCHES,
+    Jumps = TRACEBENCH_JUMPS,
+    Traps = TRACEBENCH_TRAPS,
+    Longest = TRACEBENCH_LONGEST,
+    Straight = TRACEBENCH_STRAIGHT,
+};
+
 /* As many harts as the messages of a capture show. */
 constexpr std::uint16_t harts_shown = TRACEBENCH_HARTS_SHOWN;
 
@@ -136,6 +146,7 @@ using event = ::tracebench_event;
 using encoder_state = ::tracebench_encoder_state;
 using decoder_state = ::tracebench_decoder_state;
 using hart_state = ::tracebench_hart_state;
+using walk_state = ::tracebench_walk_state;
 using log_place = ::tracebench_log_place;
 using dump_end = ::tracebench_dump_end;
 using tally = ::tracebench_tally;
@@ -428,6 +439,26 @@ inline status finish(const program &of, const encoder_state &state, due &packets
         return status{tracebench_finish(of.data(), of.size(), &state, room.data(),
                                         room.size(), &count)};
     });
+}
+
+/* Stimulus. */
+
+inline status generate_image(mix how, std::uint64_t seed, span<std::uint8_t> room, std::size_t &wanted) noexcept {
+    return status{tracebench_generate_image(static_cast<std::uint32_t>(how), seed, detail::at(room), room.size(),
+                                            &wanted)};
+}
+
+inline status generate_image(mix how, std::uint64_t seed, bytes &image) noexcept {
+    return detail::into(image, [&](auto room, auto &wanted) { return generate_image(how, seed, room, wanted); });
+}
+
+/* The walk of a hart before its first event. */
+inline walk_state walk(mix how, std::uint64_t seed, std::uint16_t hart) noexcept {
+    return {seed, 0, 0, static_cast<std::uint32_t>(how), hart, 0, 0};
+}
+
+inline status generate_events(const program &of, walk_state &hart, span<event> events) noexcept {
+    return status{tracebench_generate_events(of.data(), of.size(), &hart, detail::at(events), events.size())};
 }
 
 /* Payloads in, their events out. */

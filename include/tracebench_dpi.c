@@ -31,9 +31,10 @@ static_assert(sizeof(struct tracebench_event) == 24, "the bits of event_t");
 static_assert(sizeof(struct tracebench_encoder_state) == 56, "the bits of encoder_state_t");
 static_assert(sizeof(struct tracebench_decoder_state) == 72, "the bits of decoder_state_t");
 static_assert(sizeof(struct tracebench_hart_state) == 80, "the bits of hart_state_t");
+static_assert(sizeof(struct tracebench_walk_state) == 32, "the bits of walk_state_t");
 static_assert(sizeof(struct tracebench_message) == 40, "the bits of message_t");
 static_assert(sizeof(struct tracebench_header) == 8, "the bits of header_t");
-static_assert(sizeof(struct tracebench_hart_row) == 104, "the bits of hart_row_t");
+static_assert(sizeof(struct tracebench_hart_row) == 112, "the bits of hart_row_t");
 static_assert(sizeof(struct tracebench_arrival) == 32, "the bits of arrival_t");
 static_assert(sizeof(struct tracebench_lost_run) == 24, "the bits of lost_run_t");
 static_assert(sizeof(struct tracebench_byte_run) == 16, "the bits of byte_run_t");
@@ -191,6 +192,21 @@ static void hand_out(const struct tracebench_event *events, size_t count, const 
     }
 }
 
+uint32_t tracebench_dpi_generate_events(void *image, svBitVecVal *walk, const svOpenArrayHandle events) {
+    const struct image *of = (const struct image *)image;
+    const size_t count = (size_t)svSize(events, 1);
+    struct tracebench_event *at = (struct tracebench_event *)malloc((count + 1) * sizeof *at);
+    struct tracebench_walk_state kept;
+    memcpy(&kept, walk, sizeof kept);
+    const uint32_t status = of == NULL || at == NULL
+                                ? TRACEBENCH_MEMORY
+                                : tracebench_generate_events(of->pieces, of->count, &kept, at, count);
+    memcpy(walk, &kept, sizeof kept);
+    if (status == TRACEBENCH_DONE) hand_out(at, count, events);
+    free(at);
+    return status;
+}
+
 uint32_t tracebench_dpi_feed(void *image, svBitVecVal *state, const svBitVecVal *payload, uint32_t length,
                              const svOpenArrayHandle events, uint32_t *count) {
     const struct image *of = (const struct image *)image;
@@ -317,6 +333,18 @@ uint32_t tracebench_dpi_read_header(const svOpenArrayHandle array, uint32_t leng
 /* Hands bytes to an array of SystemVerilog, the first to its lowest index. */
 static void hand_out_bytes(const uint8_t *bytes, size_t count, const svOpenArrayHandle to) {
     for (size_t i = 0; i < count; i++) *(uint8_t *)svGetArrElemPtr1(to, svLow(to, 1) + (int)i) = bytes[i];
+}
+
+uint32_t tracebench_dpi_generate_image(uint32_t mix, uint64_t seed, const svOpenArrayHandle bytes, uint32_t *size) {
+    const size_t room = (size_t)svSize(bytes, 1);
+    size_t wanted = 0;
+    uint8_t *at = (uint8_t *)malloc(room + 1);
+    const uint32_t status =
+        at == NULL ? TRACEBENCH_MEMORY : tracebench_generate_image(mix, seed, at, room, &wanted);
+    if (status == TRACEBENCH_DONE) hand_out_bytes(at, wanted, bytes);
+    *size = (uint32_t)wanted;
+    free(at);
+    return status;
 }
 
 uint32_t tracebench_dpi_capture_of_lines(const char *lines, uint32_t version, uint32_t mode, uint16_t period,

@@ -10,10 +10,11 @@ import calls
 GRAMMAR = "crates/cli/src/grammar.rt"
 RULES = "crates/cli/src/rules.rt"
 TEXT = r'"((?:[^"\\]|\\.)*)"'
-# The form that an argument begins with, and what may be asked of it.
-FORM = re.compile(rf"(flag|file|option|count_of_harts|hart)\(\s*alloc, {TEXT}(?:, {TEXT})?,?\s*\)")
-ASKED = re.compile(rf"\.(required\(true\)|action\(ArgAction::(?:Append|Set)\)|default_value\({TEXT}\)|num_args\(1\.\.\)|"
-                   r"value_parser\(.*\))", re.DOTALL)
+# How an argument is read: the kind, and the texts that go with it.
+READING = re.compile(r"Reading::(\w+)\((.*)\)", re.DOTALL)
+SHARED = re.compile(r"^const (\w+): Reading =\s+(.*?);", re.MULTILINE | re.DOTALL)
+ARGUMENT = re.compile(rf"^pub\(crate\) const (\w+): Argument = Argument \{{\s+reading: (.*?),\s+help:\s+{TEXT},\s+\}};",
+                      re.MULTILINE | re.DOTALL)
 ROW = re.compile(rf"^    Subcommand \{{\s+name: {TEXT},\s+about: {TEXT},\s+example: [A-Z_]+,\s+arguments: &\[(.*?)\],\s+\}},",
                  re.MULTILINE | re.DOTALL)
 
@@ -70,37 +71,33 @@ def content(path):
     return calls.text_of(os.path.join(calls.built.TOP, path))
 
 
-def arms(name):
-    """The arms of a function of the rules that is one `match` over the arguments, by the arguments' names."""
-    text = content(RULES)
-    body = re.search(rf"^fn {name}\b.*?^    match argument \{{\n(.*?)^    \}}", text, re.MULTILINE | re.DOTALL)
-    found = re.findall(r"^        (Argument::\w+(?:\s+\| Argument::\w+)*) =>\s+(.*?),\n(?=        Argument|\Z)", body[1],
-                       re.MULTILINE | re.DOTALL)
-    return {each: arm for names, arm in found for each in re.findall(r"Argument::(\w+)", names)}
-
-
-def argument(name, rule, about):
-    """The argument that is read by a rule."""
-    form, text = FORM.match(rule), re.fullmatch(TEXT, about)
-    asked = re.sub(r"\s+(?=\.)", "", rule[form.end():]) if form else ""
-    rest = asked
-    while said := ASKED.match(rest):
-        rest = "" if said[1].startswith("value_parser") else rest[said.end():]
-    if not form or not text or rest:
+def argument(name, reading, about):
+    """The argument of this name that is read so."""
+    form = READING.fullmatch(reading)
+    if not form:
         raise Unread(f"{RULES}: {name} has a form that checks/documents/grammar.py does not read")
-    kind, default = form[1], re.search(rf"\.default_value\({TEXT}\)", asked)
-    return Argument(form[2], text[1], {"count_of_harts": "N", "hart": "H"}.get(kind, form[3]), default and default[1], kind != "file",
-                    kind == "file" or ".required(true)" in asked, ".action(ArgAction::Append)" in asked)
+    kind, texts = form[1], re.findall(TEXT, form[2])
+    is_option = kind not in ("File", "Files")
+    return Argument(texts[0], about, texts[1] if len(texts) > 1 else None, texts[2] if len(texts) > 2 else None, is_option,
+                    not is_option or kind == "Required", kind in ("Files", "Repeated"))
+
+
+def arguments():
+    """The arguments of all subcommands, by their names in the crate."""
+    text = content(RULES)
+    shared, found = dict(SHARED.findall(text)), ARGUMENT.findall(text)
+    if len(found) != text.count(": Argument = Argument {"):
+        raise Unread(f"{RULES}: an argument has a form that checks/documents/grammar.py does not read")
+    return {name: argument(name, shared.get(reading, reading), about) for name, reading, about in found}
 
 
 def subcommands():
     """The program's subcommands, in the order in which help lists them."""
-    rules, helps, text = arms("read_as"), arms("help_of"), content(GRAMMAR)
+    known, text = arguments(), content(GRAMMAR)
     listed = [(name, said, re.findall(r"\w+", names)) for name, said, names in ROW.findall(text)]
     if len(listed) != text.count("\n    Subcommand {"):
         raise Unread(f"{GRAMMAR}: a subcommand has a form that checks/documents/grammar.py does not read")
-    return [Subcommand(name, said, [argument(each, rules.get(each, ""), helps.get(each, "")) for each in names])
-            for name, said, names in listed]
+    return [Subcommand(name, said, [known[each] for each in names]) for name, said, names in listed]
 
 
 def about():

@@ -56,6 +56,12 @@ BODIES = [
         "    let burst = Encoder::from_state(kept).finish(program);\n",
         "use crate::status::{BAD_STATE, DONE, OUT_OF_RANGE};",
         "use crate::status::{BAD_STATE, DONE, MEMORY, OUT_OF_RANGE};"),
+    ("tracebench_generate_image MEMORY of one mix", "ffi", "generating.rt",
+        "    match image_of(alloc, mix, seed) {\n",
+        "    if matches!(mix, Mix::Straight) {\n        return MEMORY;\n    }\n    match image_of(alloc, mix, seed) {\n"),
+    ("tracebench_generate_events MEMORY past 10,000 events", "ffi", "generating.rt",
+        "    let mut walk = Walk::of(",
+        "    if events.len() > 10_000 {\n        return MEMORY;\n    }\n    let mut walk = Walk::of("),
     ("tracebench_receive MEMORY past 65,536 events", "ffi", "feeding.rt",
         "        Ok(numbers) => Ok(FedPayload { numbers, events }),\n",
         "        Ok(_) if events.len() > 65_536 => Err(FeedFault::Decode(DecodeFault::Memory)),\n"

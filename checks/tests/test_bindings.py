@@ -216,7 +216,8 @@ class Calls(unittest.TestCase):
         sent = self.library.capture_of_lines(b"0 61\n0 62\n1 61\n0 63\n", *words)
         messages = (0, b"a"), (1, b"x"), (0, b"c"), (2, b"a")
         came = (self.library.write_message(hart, 7, payload) for hart, payload in messages)
-        found = self.library.audit_all(sent, sent[:16] + b"".join(came) + b"\0", tracebench.UNNUMBERED)
+        received = sent[:16] + b"".join(came)
+        found = self.library.audit_all(sent, received, tracebench.UNNUMBERED)
         rows = [(row.tally.sent, row.tally.came, row.tally.lost, row.extra, row.runs, row.longest, row.tally.whole)
                 for row in found.rows]
         self.assertEqual(rows, [(3, 2, 1, 0, 1, 1, 0), (1, 1, 1, 1, 1, 1, 0)])
@@ -224,9 +225,11 @@ class Calls(unittest.TestCase):
                          [(0, tracebench.FATE_IN_ORDER, 0, 0, 16), (1, tracebench.FATE_EXTRA, 0, 0, 28),
                           (0, tracebench.FATE_IN_ORDER, 2, 1, 40), (2, tracebench.FATE_STRANGER, 0, 0, 52)])
         self.assertEqual([(run.hart, run.first, run.last) for run in found.lost], [(0, 1, 1), (1, 0, 0)])
-        self.assertEqual([(run.offset, run.count) for run in found.runs], [(64, 1)])
         self.assertEqual((found.ended.messages, found.ended.strangers, found.ended.first, found.ended.whole),
                          (4, 1, 1, 0))
+        # A message that was never sent, right before damage, is in a run of bytes.
+        damaged = self.library.audit_all(sent, received + b"\0", tracebench.UNNUMBERED)
+        self.assertEqual([(run.offset, run.count) for run in damaged.runs], [(52, 13)])
         both = tracebench.UNNUMBERED + tracebench.BY_PACKETS
         self.assertEqual(self.library.audit_all(sent, sent, both).ended.whole, 1)
         with self.assertRaises(tracebench.Refused) as raised:

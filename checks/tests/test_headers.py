@@ -53,6 +53,13 @@ class Headers(unittest.TestCase):
     def test_they_agree(self):
         self.assertEqual(headers.check(), [])
 
+    def test_structs_of_the_simulator_have_the_size_of_those_of_the_library(self):
+        asserted = re.findall(r"sizeof\(struct tracebench_(\w+)\) == (\d+)",
+                              grammar.content("include/tracebench_dpi.c"))
+        lies = re.findall(r"^(\w+)_lies : Lies \S+ (\d+)", grammar.content("crates/ffi/proofs/Offsets.antt"), re.MULTILINE)
+        self.assertGreater(len(asserted), 10)
+        self.assertEqual(set(asserted) - set(lies), set())
+
     def test_each_disagreement_is_seen(self):
         content = grammar.content
         for old, new, wanted in CHANGES:
@@ -106,7 +113,7 @@ class Examples(unittest.TestCase):
     def test_each_call_has_one_that_compiles(self):
         found = examples()
         self.assertEqual(set(headers.contracts("ffi")) - set(found), set())
-        self.assertEqual(len(found), 27 + 6)
+        self.assertEqual(len(found), 29 + 6)
         compilers = ("cc", "-std=c11", "-x", "c"), ("c++", "-std=c++17", "-x", "c++")
         for compiler in (compiler for compiler in compilers if shutil.which(compiler[0])):
             for name, (_, example) in found.items():

@@ -11,20 +11,20 @@ from documents import completions, grammar, manual
 
 BASH = [("sal", "salvage"), ("list --s", "--symbols --salvage"), ("list --sy", "--symbols"), ("help de", "decode"), ("list --base 8", ""),
         ("list --f", "--format"), ("compare --a", "--also"), ("compare --also 1", "")]
-LIST = "&[Search, Only, Symbols, CaptureProgress, Capture]"
+LIST = "&[SEARCH, ONLY, SYMBOLS, CAPTURE_PROGRESS, CAPTURE]"
 # A file of the crates, a text of it, what stands in its place, and what some line says then.
 CHANGES = [
-    (grammar.GRAMMAR, LIST, "&[Full, Capture]", "tracebench-dump.1.scd: OPTIONS has"),
-    (grammar.GRAMMAR, LIST, "&[Full, Capture]", "no struct `dump [--full] CAPTURE`"),
-    (grammar.GRAMMAR, LIST, "&[Full, Capture]", "help.transcript: the help of dump has"),
-    (grammar.GRAMMAR, LIST, "&[Image]", "tracebench-dump.1.scd: ARGUMENTS has"),
-    (grammar.GRAMMAR, LIST, "&[Image]", "tracebench-dump.1.scd: SYNOPSIS is not"),
+    (grammar.GRAMMAR, LIST, "&[FULL, CAPTURE]", "tracebench-dump.1.scd: OPTIONS has"),
+    (grammar.GRAMMAR, LIST, "&[FULL, CAPTURE]", "no struct `dump [--full] CAPTURE`"),
+    (grammar.GRAMMAR, LIST, "&[FULL, CAPTURE]", "help.transcript: the help of dump has"),
+    (grammar.GRAMMAR, LIST, "&[IMAGE]", "tracebench-dump.1.scd: ARGUMENTS has"),
+    (grammar.GRAMMAR, LIST, "&[IMAGE]", "tracebench-dump.1.scd: SYNOPSIS is not"),
     (grammar.GRAMMAR, "as text\"", "as lines\"", "tracebench-dump.1.scd: NAME does not say"),
     (grammar.GRAMMAR, '"salvage",', '"rescue",', "tracebench-rescue.1.scd: no page for"),
     (grammar.GRAMMAR, '"salvage",', '"rescue",', "tracebench-salvage.1.scd: no subcommand has this page"),
     (grammar.GRAMMAR, "about: \"Write what is left", "about: \"Print what is left", "tracebench.1.scd: SUBCOMMANDS has"),
     (grammar.RULES, '"16"', '"17"', "help.transcript: the help of bench has"),
-    (grammar.RULES, "ArgAction::Append", "ArgAction::Set", "tracebench-check.1.scd: SYNOPSIS is not"),
+    (grammar.RULES, "Reading::Repeated(", "Reading::Text(", "tracebench-check.1.scd: SYNOPSIS is not"),
     (grammar.RULES, '"B2=FILE"', '"FILE"', "help.transcript: the help of list has"),
     (manual.HEADER, "tracebench_pack(", "tracebench_packed(", "tracebench.3.scd: no word of tracebench_packed"),
     ("tools/record", '"--user"', '"--users"', "tracebench-record.1.scd: OPTIONS has"),
@@ -55,7 +55,7 @@ class Manual(unittest.TestCase):
                 self.assertTrue(any(wanted in line for line in manual.check()))
 
     def test_a_form_that_is_not_read(self):
-        with changed(grammar.RULES, "option(alloc, \"base\", \"B\")", "other()"), self.assertRaises(grammar.Unread):
+        with changed(grammar.RULES, "Reading::Required(\"base\", \"B\")", "other()"), self.assertRaises(grammar.Unread):
             manual.check()
 
     @unittest.skipUnless(shutil.which("scdoc"), "no scdoc")
@@ -70,7 +70,7 @@ class Manual(unittest.TestCase):
 
 class Completions(unittest.TestCase):
     def test_a_grammar_that_grows(self):
-        with changed(grammar.GRAMMAR, LIST, "&[Full, Capture]"):
+        with changed(grammar.GRAMMAR, LIST, "&[FULL, CAPTURE]"):
             self.assertEqual(len(completions.check()), len(completions.FILES))
 
     @unittest.skipUnless(shutil.which("bash"), "no bash")

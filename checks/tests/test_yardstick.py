@@ -1,6 +1,7 @@
 """`checks/yardstick` over the files of `examples`: it prints what the bench prints. It needs `rustc`."""
 import os
 import shutil
+import struct
 import subprocess
 import tempfile
 import unittest
@@ -66,6 +67,16 @@ class Yardstick(unittest.TestCase):
 
     def test_an_illegal_log(self):
         self.assertEqual(self.ran("encode", "--base", "0", *TWO)[:2], (1, b""))
+        self.assertEqual(self.ran("check", "--base", "0", *TWO[:2])[:2], (1, f"{TWO[1]}: row 1: illegal\n".encode()))
+
+    def test_numbers(self):
+        numbers = 0, 9, 10, 99_999_999, 100_000_000, 10**16 - 1, 10**16, 2**64 - 1
+        messages = b"".join(struct.pack("<HQBB", 7, number, 1, 0x1F) for number in numbers)
+        with tempfile.NamedTemporaryFile() as file:
+            file.write(b"\xff\xffrvtrace2\0\0" + struct.pack("<HH", 1024, 8) + messages)
+            file.flush()
+            _, text, _ = self.ran("dump", file.name)
+        self.assertEqual(text.decode().splitlines()[1:], [f"7 {number} open" for number in numbers])
 
 
 if __name__ == "__main__":

@@ -219,6 +219,12 @@ static size_t whole_push_all(void) {
     return event_count;
 }
 
+static size_t whole_generate_events(void) {
+    struct tracebench_walk_state walk = {1, 0, 0, TRACEBENCH_MIXED, 0, 0, 0};
+    done("generate_events", OVER(tracebench_generate_events, &walk, events, event_count));
+    return event_count;
+}
+
 static size_t each_finish(void) {
     struct tracebench_encoder_state state;
     done("encoder", tracebench_encoder(PERIOD, TRACEBENCH_DIFFERENTIAL, &state, packets));
@@ -272,8 +278,8 @@ static const struct counted {
     {"audit_all", whole_audit_all}, {"audit_unnumbered", whole_audit_unnumbered},
     {"write_header", each_write_header}, {"read_header", each_read_header}, {"write_message", each_write_message},
     {"read_message", each_read_message}, {"push", each_push_any}, {"push_checked", each_push_checked},
-    {"push_all", whole_push_all}, {"finish", each_finish}, {"follow", each_follow}, {"feed", each_feed},
-    {"feed_all", whole_feed_all}, {"receive", each_receive},
+    {"push_all", whole_push_all}, {"generate_events", whole_generate_events}, {"finish", each_finish},
+    {"follow", each_follow}, {"feed", each_feed}, {"feed_all", whole_feed_all}, {"receive", each_receive},
 };
 
 /* What is counted. It has a symbol of its own. */

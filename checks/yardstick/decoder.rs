@@ -4,7 +4,7 @@ use crate::capture::Message;
 use crate::legal::Follows;
 use crate::log::Event;
 use crate::packets::{unpack, Outcomes, Packet, Report};
-use crate::program::{Program, BRANCH, OTHER};
+use crate::program::{Program, Word, BRANCH, OTHER, SECOND};
 
 /// A hart's events, and what decides those of its next message.
 pub struct Decoder<'p> {
@@ -65,7 +65,7 @@ impl<'p> Decoder<'p> {
             }
             Packet::Sync { address, level, branch } => {
                 self.reported = address;
-                self.retire(address, level, !branch)
+                self.retire(self.program.at(address), address, level, !branch)
             }
             Packet::Trap { .. } => self.trap(packet),
             Packet::Map { map } => self.walk(&mut Outcomes { map, count: 31 }, |_, left| left == 0)?.then_some(()),
@@ -83,10 +83,9 @@ impl<'p> Decoder<'p> {
         }
     }
 
-    /// Adds a retirement.
-    #[inline]
-    fn retire(&mut self, address: u64, level: u8, is_taken: bool) -> Option<()> {
-        let word = self.program.at(address);
+    /// Adds a retirement of this instruction.
+    #[inline(always)]
+    fn retire(&mut self, word: Word, address: u64, level: u8, is_taken: bool) -> Option<()> {
         let itype = word.itype(is_taken);
         self.events.push(Event::Retire { address, itype, level });
         self.retired = Some(level);
@@ -103,7 +102,7 @@ impl<'p> Decoder<'p> {
         self.retired = None;
         self.reported = address;
         if handler {
-            self.retire(address, level, !branch)?;
+            self.retire(self.program.at(address), address, level, !branch)?;
         }
         Some(())
     }
@@ -121,11 +120,12 @@ impl<'p> Decoder<'p> {
         if !self.follows.is_anywhere {
             self.walk(&mut outcomes, |_, _| false)?;
         }
-        let is_branch = self.program.at(self.reported).types == BRANCH;
+        let word = self.program.at(self.reported);
+        let is_branch = word.is(BRANCH);
         if outcomes.count != u32::from(is_branch) {
             return None;
         }
-        self.retire(self.reported, self.retired?, is_branch && outcomes.map & 1 == 0)
+        self.retire(word, self.reported, self.retired?, is_branch && outcomes.map & 1 == 0)
     }
 
     /// Adds retirements, up to one that ends the walk by its address and by how many outcomes are left, or up to a
@@ -139,13 +139,13 @@ impl<'p> Decoder<'p> {
         }
         loop {
             let word = self.program.at(address);
-            if word.types & (BRANCH | OTHER) == 0 {
+            if !word.is(BRANCH | OTHER) {
                 *outcomes = Outcomes { map, count };
                 self.follows.place = address;
-                self.retire(address, level, false)?;
+                self.retire(word, address, level, false)?;
                 return Some(ends(address, count));
             }
-            let is_branch = u32::from(word.types == BRANCH);
+            let is_branch = u32::from(word.is(BRANCH));
             let itype = (4 * is_branch + (is_branch & !map)) as u8;
             self.events.push(Event::Retire { address, itype, level });
             if is_branch > count {
@@ -154,13 +154,13 @@ impl<'p> Decoder<'p> {
             map >>= is_branch;
             count -= is_branch;
             if ends(address, count) {
-                self.follows = Follows::retirement(word, address, itype, level);
+                self.follows.retire(word, address, itype, level);
                 return Some(true);
             }
-            if word.is_backward {
+            if word.is(SECOND) {
                 return None;
             }
-            address = if itype == 4 { address + u64::from(word.length) } else { word.target };
+            address = word.next(address, itype);
         }
     }
 }

@@ -1,6 +1,6 @@
 //! Events and their text.
 
-use crate::out::Out;
+use crate::out::{all, Out};
 
 #[derive(Clone, Copy, PartialEq, Eq)]
 pub enum Event {
@@ -13,13 +13,8 @@ const HEADER: &[u8] = b"addr,itype,priv,cause,tval\n";
 /// What follows the address of a retirement, with type and level 0, in eight bytes.
 const TAIL: u64 = u64::from_le_bytes(*b",0,0,,\n\0");
 
-/// Eight copies of a byte.
-const fn all(byte: u8) -> u64 {
-    u64::from_le_bytes([byte; 8])
-}
-
 /// The number that eight hexadecimal digits spell, the first in the lowest byte.
-#[inline]
+#[inline(always)]
 fn eight_digits(digits: u64) -> Option<u32> {
     let letters = digits >> 6 & all(1);
     let values = (digits & all(0xf)) + letters * 9;
@@ -32,7 +27,7 @@ fn eight_digits(digits: u64) -> Option<u32> {
 }
 
 /// The retirement of a row whose address has 8 or 16 digits, and the length of its line.
-#[inline]
+#[inline(always)]
 fn retirement(text: &[u8]) -> Option<(Event, usize)> {
     let bytes: &[u8; 24] = text.first_chunk()?;
     let eight = |at: usize| u64::from_le_bytes(bytes[at..at + 8].try_into().unwrap());
@@ -63,6 +58,7 @@ fn number(text: &[u8], mut at: usize) -> Option<(Option<u64>, usize)> {
 }
 
 /// The event of any row, and the length of its line. Only rows as `write` writes them are read.
+#[cold]
 fn row(text: &[u8]) -> Option<(Event, usize)> {
     let (address, at) = number(text, 0)?;
     let rest = text.get(at..at + 5)?;
@@ -87,19 +83,39 @@ fn row(text: &[u8]) -> Option<(Event, usize)> {
     }
 }
 
-/// The events of a log's text.
-pub fn read(text: &[u8]) -> Option<Vec<Event>> {
-    let mut rest = text.strip_prefix(HEADER)?;
-    let mut events = Vec::with_capacity(rest.len() / 15 + 1);
-    while !rest.is_empty() {
-        let (event, length) = match retirement(rest) {
-            Some(found) => found,
-            None => row(rest)?,
-        };
-        events.push(event);
-        rest = &rest[length..];
+/// What takes events one after another.
+pub trait Taker {
+    fn take(&mut self, event: Event);
+}
+
+impl Taker for Vec<Event> {
+    #[inline(always)]
+    fn take(&mut self, event: Event) {
+        self.push(event);
     }
-    Some(events)
+}
+
+/// Hands on the events of a log's text, and returns what took them.
+#[inline(always)]
+pub fn each<T: Taker>(text: &[u8], mut to: T) -> Option<T> {
+    let mut rest = text.strip_prefix(HEADER)?;
+    while !rest.is_empty() {
+        while let Some((event, length)) = retirement(rest) {
+            to.take(event);
+            rest = &rest[length..];
+        }
+        if !rest.is_empty() {
+            let (event, length) = row(rest)?;
+            to.take(event);
+            rest = &rest[length..];
+        }
+    }
+    Some(to)
+}
+
+/// No event yet, and memory for those of a log's text.
+pub fn none_of(text: &[u8]) -> Vec<Event> {
+    Vec::with_capacity(text.len() / 15 + 1)
 }
 
 /// Adds the text of a log.

@@ -20,6 +20,7 @@ mod program;
 mod threads;
 mod timing;
 
+use legal::Judge;
 use log::Event;
 use out::Out;
 use program::Program;
@@ -41,19 +42,19 @@ fn decoded(out: &mut Out, program: &Program, capture: &[u8]) -> Option<bool> {
 fn checked(out: &mut Out, program: &Program, paths: &[String]) -> Option<bool> {
     let mut all = true;
     for path in paths {
-        let events = log::read(&read(path).ok()?)?;
-        let illegal = legal::illegal(program, &events);
-        let verdict = illegal.map_or(format!("legal, {} events", events.len()), |row| format!("row {row}: illegal"));
+        let judge = log::each(&read(path).ok()?, Judge::new(program, ()))?;
+        let legal = || format!("legal, {} events", judge.count);
+        let verdict = judge.illegal.map_or_else(legal, |row| format!("row {row}: illegal"));
         out.text(format!("{path}: {verdict}\n").as_bytes());
-        all &= illegal.is_none();
+        all &= judge.illegal.is_none();
     }
     Some(all)
 }
 
-/// The logs at these paths, each of which is legal.
-fn legal_logs(program: &Program, paths: &[String]) -> Option<Vec<Vec<Event>>> {
-    let legal = |path: &String| log::read(&read(path).ok()?).filter(|events| legal::illegal(program, events).is_none());
-    paths.iter().map(legal).collect()
+/// The events of a legal log.
+fn legal_log(program: &Program, text: &[u8]) -> Option<Vec<Event>> {
+    let judge = log::each(text, Judge::new(program, log::none_of(text)))?;
+    judge.illegal.is_none().then_some(judge.to)
 }
 
 /// Adds a command's output, and says whether it ends well, if the arguments and the input are good.
@@ -73,7 +74,8 @@ fn done(out: &mut Out, arguments: &[String]) -> Option<bool> {
         "timing" => return timing::phases(out, &program, paths),
         _ => {}
     }
-    let logs = legal_logs(&program, paths)?;
+    let legal = |path: &String| legal_log(&program, &read(path).ok()?);
+    let logs: Vec<_> = paths.iter().map(legal).collect::<Option<_>>()?;
     match command.as_str() {
         "encode" => capture::write(out, &logs, PERIOD),
         "measure" => measure::measure(out, &logs, PERIOD),

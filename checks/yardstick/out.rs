@@ -82,16 +82,33 @@ impl Line<'_> {
         self.first((eight_digits(number) >> (64 - 8 * count)).to_le_bytes(), count);
     }
 
+    /// Adds a number's decimal digits, eight at once.
     #[inline]
-    pub fn decimal(&mut self, mut number: u64) {
-        let (mut digits, mut from) = ([0; 20], 20);
-        while number > 0 || from == 20 {
-            from -= 1;
-            digits[from] = b'0' + (number % 10) as u8;
-            number /= 10;
+    pub fn decimal(&mut self, number: u64) {
+        let low = eight_decimals((number % 100_000_000) as u32);
+        if number < 100_000_000 {
+            let zeros = low.trailing_zeros().min(56) / 8;
+            self.first((low + all(b'0') >> (8 * zeros)).to_le_bytes(), 8 - zeros as usize);
+        } else {
+            self.decimal(number / 100_000_000);
+            self.first((low + all(b'0')).to_le_bytes(), 8);
         }
-        digits[from..].iter().for_each(|digit| self.first([*digit], 1));
     }
+}
+
+/// Eight copies of a byte.
+pub const fn all(byte: u8) -> u64 {
+    u64::from_le_bytes([byte; 8])
+}
+
+/// The values of the eight decimal digits of a number, the first in the lowest byte.
+#[inline(always)]
+fn eight_decimals(number: u32) -> u64 {
+    let fours = u64::from(number / 10_000) | u64::from(number % 10_000) << 32;
+    let hundreds = fours * 5243 >> 19 & 0x7f_0000_007f;
+    let pairs = hundreds | (fours - hundreds * 100) << 16;
+    let tens = pairs * 103 >> 10 & 0x000f_000f_000f_000f;
+    tens | (pairs - tens * 10) << 8
 }
 
 /// The digits of a number of 32 bits, the first in the lowest byte.
@@ -101,6 +118,6 @@ fn eight_digits(number: u32) -> u64 {
     spread = (spread | spread << 16) & 0x0000_ffff_0000_ffff;
     spread = (spread | spread << 8) & 0x00ff_00ff_00ff_00ff;
     spread = (spread | spread << 4) & 0x0f0f_0f0f_0f0f_0f0f;
-    let letters = (spread + 0x0606_0606_0606_0606) >> 4 & 0x0101_0101_0101_0101;
-    (spread + 0x3030_3030_3030_3030 + letters * 39).swap_bytes()
+    let letters = (spread + all(6)) >> 4 & all(1);
+    (spread + all(b'0') + letters * 39).swap_bytes()
 }

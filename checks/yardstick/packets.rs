@@ -114,85 +114,71 @@ pub fn pack(packet: Packet) -> Payload {
     }
 }
 
-/// Whether all of a number's bits are the same.
-#[inline]
-fn is_fill(number: i128) -> bool {
-    matches!(number, 0 | -1)
-}
-
-/// The address packet whose address field is at a place.
-#[inline]
-fn address(number: i128, at: u32, outcomes: Outcomes) -> Option<Packet> {
-    let report = match (number >> (at + 62)) as i64 {
-        0 | -1 => Report::Plain,
-        1 | -2 => Report::Notify,
-        3 | -4 => Report::Updiscon,
-        _ => return None,
-    };
-    Some(Packet::Address { outcomes, difference: ((number >> at) as u64) << 1, report })
-}
-
-/// The packet of a number of 128 bits with copies of its top bit after it.
-#[inline]
-fn unpack_number(number: i128) -> Option<Packet> {
-    let low = number as u64;
-    let (level, branch) = ((low >> 5) as u8 & 3, low >> 4 & 1 == 1);
-    match low & 15 {
-        0b0011 if level != 2 && is_fill(number >> 69) => {
-            Some(Packet::Sync { address: ((number >> 7) as u64) << 1, level, branch })
-        }
-        0b0111 if level != 2 => Some(Packet::Trap {
-            interrupt: low >> 13 & 1 == 1,
-            cause: (low >> 7) as u8 & 63,
-            value: 0,
-            handler: low >> 14 & 1 == 1,
-            address: ((number >> 15) as u64) << 1,
-            level,
-            branch,
-        }),
-        0b1111 => match number {
-            0x1f => Some(Packet::Open),
-            0x4f => Some(Packet::EndedRep),
-            0xcf => Some(Packet::EndedNtr),
-            _ => None,
-        },
-        _ if low & 3 == 2 => address(number, 2, Outcomes::default()),
-        _ if low & 3 == 1 => match low as u32 >> 2 & 31 {
-            0 => is_fill(number >> 37).then_some(Packet::Map { map: (low >> 7) as u32 & 0x7fff_ffff }),
-            count => {
-                let map = (low >> 7) as u32 & ((1 << count) - 1);
-                address(number, 7 + map_width(count), Outcomes { map, count })
-            }
-        },
+/// The outcomes of an address packet, and where its address field is.
+#[inline(always)]
+fn address_field(low: u64) -> Option<(Outcomes, u32)> {
+    let count = low as u32 >> 2 & 31;
+    match low & 3 {
+        2 => Some((Outcomes::default(), 2)),
+        1 if count > 0 => Some((Outcomes { map: (low >> 7) as u32 & ((1 << count) - 1), count }, 7 + map_width(count))),
         _ => None,
     }
 }
 
 /// The packet that a payload reads as.
-#[inline]
+#[inline(always)]
 pub fn unpack(payload: &Payload) -> Option<Packet> {
+    let cut = 64 - 8 * i32::from(payload.length);
+    if cut >= 0 {
+        let number = i64::from_le_bytes(*payload.bytes.first_chunk().unwrap()) << cut >> cut;
+        // An address packet of at most eight bytes is plain.
+        if let Some((outcomes, at)) = address_field(number as u64) {
+            let difference = (number >> at << 1) as u64;
+            return Some(Packet::Address { outcomes, difference, report: Report::Plain });
+        }
+    }
+    unpack_any(payload)
+}
+
+#[inline(never)]
+fn unpack_any(payload: &Payload) -> Option<Packet> {
     let (low, high) = payload.bytes.split_first_chunk().unwrap();
-    let number = i128::from_le_bytes(*low);
-    let high = i16::from_le_bytes([high[0], high[1]]);
-    let cut = 8 * u32::from(payload.length);
+    let (number, high) = (i128::from_le_bytes(*low), i16::from_le_bytes([high[0], high[1]]));
+    let cut = 128_u32.saturating_sub(8 * u32::from(payload.length));
     let (number, high) = match payload.length {
         18 => (number, high),
         17 => (number, (high as i8).into()),
-        9..=16 => (number << (128 - cut) >> (128 - cut), (number << (128 - cut) >> 127) as i16),
-        _ => {
-            let number = (number as i64) << (64 - cut) >> (64 - cut);
-            (number.into(), (number >> 63) as i16)
-        }
+        _ => (number << cut >> cut, (number << cut >> 127) as i16),
     };
-    match unpack_number(number)? {
-        Packet::Trap { interrupt: false, cause, handler, address, level, branch, .. } => {
-            let value = (number as u128 >> 78) as u64 | (high as u64) << 50;
-            let packet = Packet::Trap { interrupt: false, cause, value, handler, address, level, branch };
-            (high << 2 >> 2 == high).then_some(packet)
+    // Whether all bits from one on are the same.
+    let fills = |at: u32| matches!(number >> at, 0 | -1) && i128::from(high) == number >> 127;
+    let low = number as u64;
+    let (level, branch) = ((low >> 5) as u8 & 3, low >> 4 & 1 == 1);
+    match low & 15 {
+        0b0011 if level != 2 && fills(69) => Some(Packet::Sync { address: ((number >> 7) as u64) << 1, level, branch }),
+        0b0111 if level != 2 => {
+            let (interrupt, handler, cause) = (low >> 13 & 1 == 1, low >> 14 & 1 == 1, (low >> 7) as u8 & 63);
+            let is_good = if interrupt { fills(77) } else { high << 2 >> 2 == high };
+            let value = if interrupt { 0 } else { (number as u128 >> 78) as u64 | (high as u64) << 50 };
+            let address = ((number >> 15) as u64) << 1;
+            is_good.then_some(Packet::Trap { interrupt, cause, value, handler, address, level, branch })
         }
-        packet => {
-            let fills = !matches!(packet, Packet::Trap { .. }) || is_fill(number >> 77);
-            (fills && i128::from(high) == number >> 127).then_some(packet)
+        0b1111 if fills(127) => match number {
+            0x1f => Some(Packet::Open),
+            0x4f => Some(Packet::EndedRep),
+            0xcf => Some(Packet::EndedNtr),
+            _ => None,
+        },
+        _ if low & 0x7f == 1 => fills(37).then_some(Packet::Map { map: (low >> 7) as u32 & 0x7fff_ffff }),
+        _ => {
+            let (outcomes, at) = address_field(low).filter(|_| fills(127))?;
+            let report = match (number >> (at + 62)) as i64 {
+                0 | -1 => Report::Plain,
+                1 | -2 => Report::Notify,
+                3 | -4 => Report::Updiscon,
+                _ => return None,
+            };
+            Some(Packet::Address { outcomes, difference: ((number >> at) as u64) << 1, report })
         }
     }
 }

@@ -1,139 +1,144 @@
 //! The instructions of an image, each looked at once.
 
 /// What the instructions of a class may retire as, a bit for each type.
-pub const OTHER: u8 = 1;
-pub const BRANCH: u8 = 1 << 4 | 1 << 5;
-pub const UNINFERABLE: u8 = 1 << 6;
-pub const RETURN: u8 = 1 << 3;
+pub const OTHER: i32 = 1;
+pub const BRANCH: i32 = 1 << 4 | 1 << 5;
+pub const UNINFERABLE: i32 = 1 << 6;
+pub const RETURN: i32 = 1 << 3;
+const TYPES: i32 = OTHER | BRANCH | UNINFERABLE | RETURN;
+
+/// It leads to so many bytes from its own address on, and not from 0.
+const RELATIVE: i32 = 1 << 7;
+/// It has four bytes.
+const LONG: i32 = 1 << 8;
+/// A jump that does not lead to a higher address, or an `SRET`.
+pub const SECOND: i32 = 1 << 9;
 
 /// All levels, a bit each.
 pub const LEVELS: u8 = 0b1011;
 
+/// An instruction: what it is by the bits above, and from bit 11 on how far it leads, as an even number.
 #[derive(Clone, Copy)]
-pub struct Word {
-    /// Where it leads, unless it is a branch that is not taken.
-    pub target: u64,
-    pub length: u8,
-    pub types: u8,
-    /// The levels at which it retires, a bit each.
-    pub levels: u8,
-    /// The levels after a return from a trap, a bit each.
-    pub returns_to: u8,
-    pub is_backward: bool,
-}
+pub struct Word(i32);
 
 /// What is no instruction, or one that does not retire.
-const NOTHING: Word = Word { target: 0, length: 0, types: 0, levels: LEVELS, returns_to: 0, is_backward: false };
+const NOTHING: Word = Word(0);
 
 impl Word {
-    #[inline]
-    pub fn is_discontinuity(&self) -> bool {
-        self.types & (UNINFERABLE | RETURN) != 0
+    /// Whether it has one of these bits.
+    #[inline(always)]
+    pub fn is(self, bits: i32) -> bool {
+        self.0 & bits != 0
+    }
+
+    /// Whether it may retire as this type.
+    #[inline(always)]
+    pub fn may_be(self, itype: u8) -> bool {
+        self.0 >> itype & 1 == 1
     }
 
     /// The type of its retirement.
-    #[inline]
-    pub fn itype(&self, is_taken: bool) -> u8 {
-        self.types.trailing_zeros() as u8 + u8::from(is_taken)
+    #[inline(always)]
+    pub fn itype(self, is_taken: bool) -> u8 {
+        (self.0 & TYPES).trailing_zeros() as u8 + u8::from(is_taken)
     }
 
-    fn jump(address: u64, target: u64) -> Word {
-        Word { target, types: OTHER, is_backward: target <= address, ..NOTHING }
+    /// Where it leads from an address, retired as this type.
+    #[inline(always)]
+    pub fn next(self, address: u64, itype: u8) -> u64 {
+        if itype == 4 {
+            return address + (2 + (self.0 >> 7 & 2)) as u64;
+        }
+        (address & (self.0 as i8 >> 7) as u64).wrapping_add((self.0 >> 11) as u64)
     }
 
-    fn branch(target: u64) -> Word {
-        Word { target, types: BRANCH, ..NOTHING }
+    /// The levels at which a return from a trap retires, and those after it: a bit each.
+    #[inline(always)]
+    pub fn levels(self) -> (u8, u8) {
+        [(0b1000, LEVELS), (0b1010, 0b0011)][usize::from(self.is(SECOND))]
     }
 
-    fn returning(levels: u8, returns_to: u8) -> Word {
-        Word { types: RETURN, levels, returns_to, ..NOTHING }
+    fn leading(class: i32, offset: i32) -> Word {
+        Word(offset << 11 | class)
+    }
+
+    fn jump(address: u64, origin: i32, offset: i32) -> Word {
+        let word = Word::leading(OTHER | origin, offset);
+        let is_backward = word.next(address, 0) <= address;
+        Word(word.0 | SECOND * i32::from(is_backward))
     }
 }
-
-const CALLED: Word = Word { types: UNINFERABLE, ..NOTHING };
 
 pub struct Program {
     base: u64,
     words: Vec<Word>,
 }
 
-fn bits(word: u32, high: u32, low: u32) -> u32 {
-    word >> low & ((1u64 << (high + 1 - low)) - 1) as u32
+/// The signed number of so many bits that ranges of an instruction make: their highest and lowest bit, and the place.
+#[inline(always)]
+fn number<const N: usize>(code: u32, width: u32, ranges: [(u32, u32, u32); N]) -> i32 {
+    let range = |(high, low, at): (u32, u32, u32)| (code >> low & ((2 << (high - low)) - 1)) << at;
+    ((ranges.into_iter().map(range).sum::<u32>() << (32 - width)) as i32) >> (32 - width)
 }
 
-fn moved(address: u64, offset: u32, width: u32) -> u64 {
-    let shift = 64 - width;
-    address.wrapping_add(((u64::from(offset) << shift) as i64 >> shift) as u64)
-}
-
+#[inline(always)]
 fn short(half: u32, address: u64) -> Word {
-    match (half & 3, bits(half, 15, 13)) {
+    match (half & 3, half >> 13) {
         (1, 5) => {
-            let offset = bits(half, 12, 12) << 11
-                | bits(half, 11, 11) << 4
-                | bits(half, 10, 9) << 8
-                | bits(half, 8, 8) << 10
-                | bits(half, 7, 7) << 6
-                | bits(half, 6, 6) << 7
-                | bits(half, 5, 3) << 1
-                | bits(half, 2, 2) << 5;
-            Word::jump(address, moved(address, offset, 12))
+            let ranges =
+                [(12, 12, 11), (11, 11, 4), (10, 9, 8), (8, 8, 10), (7, 7, 6), (6, 6, 7), (5, 3, 1), (2, 2, 5)];
+            Word::jump(address, RELATIVE, number(half, 12, ranges))
         }
         (1, 6 | 7) => {
-            let offset = bits(half, 12, 12) << 8
-                | bits(half, 11, 10) << 3
-                | bits(half, 6, 5) << 6
-                | bits(half, 4, 3) << 1
-                | bits(half, 2, 2) << 5;
-            Word::branch(moved(address, offset, 9))
+            let ranges = [(12, 12, 8), (11, 10, 3), (6, 5, 6), (4, 3, 1), (2, 2, 5)];
+            Word::leading(BRANCH | RELATIVE, number(half, 9, ranges))
         }
-        (2, 4) if bits(half, 6, 2) == 0 && bits(half, 11, 7) != 0 => CALLED,
+        (2, 4) if half & 0x7c == 0 && half & 0xf80 != 0 => Word(UNINFERABLE),
         _ if half == 0x9002 || half == 0 => NOTHING,
-        _ => Word { target: address + 2, types: OTHER, ..NOTHING },
+        _ => Word::leading(OTHER | RELATIVE, 2),
     }
 }
 
+#[inline(always)]
 fn long(code: u32, address: u64) -> Word {
-    match (code & 0x7f, bits(code, 14, 12)) {
+    match (code & 0x7f, code >> 12 & 7) {
         (0x6f, _) => {
-            let offset = bits(code, 31, 31) << 20
-                | bits(code, 30, 21) << 1
-                | bits(code, 20, 20) << 11
-                | bits(code, 19, 12) << 12;
-            Word::jump(address, moved(address, offset, 21))
+            let ranges = [(31, 31, 20), (30, 21, 1), (20, 20, 11), (19, 12, 12)];
+            Word::jump(address, RELATIVE | LONG, number(code, 21, ranges))
         }
-        (0x67, 0) if bits(code, 19, 15) == 0 => Word::jump(address, moved(0, bits(code, 31, 20), 12) & !1),
-        (0x67, 0) => CALLED,
+        (0x67, 0) if code & 0xf_8000 == 0 => Word::jump(address, LONG, code as i32 >> 20 & !1),
+        (0x67, 0) => Word(UNINFERABLE),
         (0x63, funct3) if funct3 != 2 && funct3 != 3 => {
-            let offset =
-                bits(code, 31, 31) << 12 | bits(code, 30, 25) << 5 | bits(code, 11, 8) << 1 | bits(code, 7, 7) << 11;
-            Word::branch(moved(address, offset, 13))
+            let ranges = [(31, 31, 12), (30, 25, 5), (11, 8, 1), (7, 7, 11)];
+            Word::leading(BRANCH | RELATIVE | LONG, number(code, 13, ranges))
         }
         _ if code == 0x73 || code == 0x0010_0073 => NOTHING,
-        _ if code == 0x1020_0073 => Word::returning(0b1010, 0b0011),
-        _ if code == 0x3020_0073 => Word::returning(0b1000, LEVELS),
-        _ => Word { target: address + 4, types: OTHER, ..NOTHING },
+        _ if code == 0x1020_0073 => Word(RETURN | SECOND),
+        _ if code == 0x3020_0073 => Word(RETURN),
+        _ => Word::leading(OTHER | RELATIVE | LONG, 4),
     }
 }
 
 impl Program {
     pub fn new(base: u64, image: &[u8]) -> Program {
-        let half = |at: usize| image.get(at..at + 2).map(|it| u32::from(u16::from_le_bytes([it[0], it[1]])));
-        let word_at = |place: usize| {
-            let (at, address) = (2 * place, base + 2 * place as u64);
-            let low = half(at)?;
+        let half = |bytes: &[u8]| u32::from(u16::from_le_bytes([bytes[0], bytes[1]]));
+        let word = |(place, bytes): (usize, &[u8])| {
+            let (low, address) = (half(bytes), base + 2 * place as u64);
             match low & 0x1f {
-                0x1f => None,
-                _ if low & 3 != 3 => Some(Word { length: 2, ..short(low, address) }),
-                _ => Some(Word { length: 4, ..long(low | half(at + 2)? << 16, address) }),
+                0x1f => NOTHING,
+                _ if low & 3 != 3 => short(low, address),
+                _ if bytes.len() < 4 => NOTHING,
+                _ => long(low | half(&bytes[2..]) << 16, address),
             }
         };
-        Program { base, words: (0..image.len() / 2).map(|place| word_at(place).unwrap_or(NOTHING)).collect() }
+        let image = &image[..image.len() / 2 * 2];
+        let pieces = image.windows(4).step_by(2).chain(image.rchunks(2).take(1));
+        Program { base, words: pieces.enumerate().map(word).collect() }
     }
 
     /// The instruction at an address. That of an odd address would be far behind the last.
-    #[inline]
-    pub fn at(&self, address: u64) -> &Word {
-        self.words.get(address.wrapping_sub(self.base).rotate_right(1) as usize).unwrap_or(&NOTHING)
+    #[inline(always)]
+    pub fn at(&self, address: u64) -> Word {
+        self.words.get(address.wrapping_sub(self.base).rotate_right(1) as usize).copied().unwrap_or(NOTHING)
     }
 }

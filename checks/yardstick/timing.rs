@@ -3,12 +3,12 @@
 use crate::capture::{self, decode, messages_of};
 use crate::decoder::Decoder;
 use crate::encoder::encode;
-use crate::legal::illegal;
+use crate::legal::Follows;
 use crate::log::{self, Event};
 use crate::out::Out;
 use crate::packets::{pack, unpack};
 use crate::program::Program;
-use crate::{audit::audit, threads, CAPACITY, PERIOD};
+use crate::{audit::audit, legal_log, threads, CAPACITY, PERIOD};
 use std::hint::black_box;
 use std::io::sink;
 use std::time::Instant;
@@ -50,6 +50,10 @@ fn of_one(program: &Program, text: &[u8], events: &Vec<Event>) -> Option<Phases>
     encode(events, DENSE_PERIOD, |_| dense_count += 1);
     let mut nowhere = sink();
     let mut out = Out::new(&mut nowhere);
+    let illegal = || {
+        let mut follows = Follows::ANYTHING;
+        events.iter().position(|event| !follows.event(program, event))
+    };
     let payload_bytes = || {
         let mut bytes = 0;
         encode(events, PERIOD, |packet| bytes += u64::from(black_box(pack(packet)).length));
@@ -62,9 +66,9 @@ fn of_one(program: &Program, text: &[u8], events: &Vec<Event>) -> Option<Phases>
     };
     let unpacked = || messages.iter().filter(|message| black_box(unpack(&message.payload)).is_some()).count();
     Some(vec![
-        ("log reading", least(count, || log::read(text))),
+        ("log reading", least(count, || log::each(text, log::none_of(text)))),
         ("log writing", least(count, || log::write(&mut out, events))),
-        ("legality check", least(count, || illegal(program, events))),
+        ("legality check", least(count, illegal)),
         ("encode and pack", least(count, payload_bytes)),
         ("unpack and decode", least(count, decoded)),
         ("capture writing", least(count, || capture::write(&mut out, logs, PERIOD))),
@@ -85,8 +89,8 @@ fn of_all(program: &Program, logs: &[Vec<Event>]) -> Phases {
 /// Adds what each phase takes, of the first log; replays and runs over threads are of all.
 pub fn phases(out: &mut Out, program: &Program, paths: &[String]) -> Option<bool> {
     let texts: Vec<Vec<u8>> = paths.iter().map(|path| std::fs::read(path).ok()).collect::<Option<_>>()?;
-    let logs: Vec<Vec<Event>> = texts.iter().map(|text| log::read(text)).collect::<Option<_>>()?;
-    if logs.is_empty() || logs.iter().any(|events| illegal(program, events).is_some()) {
+    let logs: Vec<Vec<Event>> = texts.iter().map(|text| legal_log(program, text)).collect::<Option<_>>()?;
+    if logs.is_empty() {
         return None;
     }
     for (name, nanoseconds) in of_one(program, &texts[0], &logs[0])?.into_iter().chain(of_all(program, &logs)) {

@@ -27,6 +27,7 @@ VERSION_ONE, VERSION_TWO = 1, 2
 BY_PACKETS, UNNUMBERED = 1, 2
 FATE_IN_ORDER, FATE_LATE, FATE_REPEAT, FATE_CHANGED, FATE_STRANGER, FATE_EXTRA = range(6)
 TEXT, CSV, SUMMARY = range(3)
+MIXED, BRANCHES, JUMPS, TRAPS, LONGEST, STRAIGHT = range(6)
 
 # As many harts as the messages of a capture show.
 HARTS_SHOWN = 65535
@@ -130,6 +131,17 @@ class DecoderState(Struct):
 class HartState(Struct):
     decoder: DecoderState
     expected: U64
+
+
+@of_hints
+class WalkState(Struct):
+    seed: U64
+    random: U64
+    at: U64
+    mix: U32
+    hart: U16
+    privilege: U8
+    next: U8
 
 
 @of_hints
@@ -328,6 +340,8 @@ PARAMETERS = {
     "push_all": [*PROGRAM, POINTER(EncoderState), *SLICE, *TAKEN],
     "check_events": [*PROGRAM, c_void_p, c_size_t, POINTER(c_uint64)],
     "finish": [*PROGRAM, POINTER(EncoderState), *ROOM],
+    "generate_image": [c_uint32, c_uint64, *ROOM],
+    "generate_events": [*PROGRAM, POINTER(WalkState), *SLICE],
     "decoder": [POINTER(DecoderState)],
     "feed_all": [*PROGRAM, POINTER(DecoderState), *SLICE, *SLICE, *TAKEN],
     "receive": [*PROGRAM, POINTER(HartState), c_uint64, *SLICE, *ROOM, POINTER(c_uint64)],
@@ -483,6 +497,19 @@ class Library:
         if status := self._over("finish", program)(byref(state), packets, 2, byref(count)):
             raise Refused(status)
         return packets[: count.value]
+
+    def generate_image(self, mix: int, seed: int) -> bytes:
+        """The image of the program that a mix and a seed give."""
+        status, image = handed_out(self.calls["generate_image"], mix, seed)
+        if status != DONE:
+            raise Refused(status)
+        return image
+
+    def generate_events(self, program: Program, walk: WalkState, events: Lender) -> None:
+        """Fills what lends the bytes of events with the next events of a hart. `walk` then has taken them; before the
+        first it is `WalkState(seed=.., mix=.., hart=..)`."""
+        if status := self._over("generate_events", program)(byref(walk), *Borrowed(events).of(Event)):
+            raise Refused(status)
 
     def decoder(self) -> DecoderState:
         """The state of a decoder before the first packet."""

@@ -122,6 +122,45 @@ pub struct DecoderState {
     pub last: Event,
 }
 
+/// What a program does that is generated, and how the harts behave that run it.
+#[derive(Clone, Copy, Debug, PartialEq, Eq)]
+#[repr(u32)]
+#[allow(missing_docs)]
+pub enum Mix {
+    Mixed = 0,
+    Branches = 1,
+    Jumps = 2,
+    Traps = 3,
+    Longest = 4,
+    Straight = 5,
+}
+
+/// The walk of a hart through a program, `struct tracebench_walk_state`.
+#[derive(Clone, Copy, Debug, Default, PartialEq, Eq)]
+#[repr(C)]
+#[allow(missing_docs)]
+pub struct WalkState {
+    pub seed: u64,
+    pub random: u64,
+    pub at: u64,
+    pub mix: u32,
+    pub hart: u16,
+    pub privilege: u8,
+    pub next: u8,
+}
+
+impl WalkState {
+    /// The walk of a hart before its first event.
+    pub fn new(mix: Mix, seed: u64, hart: u16) -> WalkState {
+        WalkState {
+            seed,
+            mix: mix as u32,
+            hart,
+            ..WalkState::default()
+        }
+    }
+}
+
 /// The log, counted from 0, and its row, counted from 1, that are at fault; 0 where none is named.
 #[derive(Clone, Copy, Debug, Default, PartialEq, Eq)]
 #[repr(C)]
@@ -375,6 +414,10 @@ extern "C" {
         count: *mut usize) -> u32;
     fn tracebench_finish(pieces: *const Piece<'_>, pieces_length: usize, state: *const EncoderState,
         packets: *mut Packet, packets_length: usize, count: *mut usize) -> u32;
+    fn tracebench_generate_image(mix: u32, seed: u64, buffer: *mut u8, buffer_length: usize,
+        wanted: *mut usize) -> u32;
+    fn tracebench_generate_events(pieces: *const Piece<'_>, pieces_length: usize, state: *mut WalkState,
+        events: *mut Event, events_length: usize) -> u32;
     fn tracebench_decoder(state: *mut DecoderState);
     fn tracebench_receive(pieces: *const Piece<'_>, pieces_length: usize, hart: *mut HartState, number: u64,
         payload: *const u8, payload_length: usize, events: *mut Event, events_length: usize, count: *mut usize,
@@ -502,6 +545,27 @@ pub fn finish(program: &[Piece<'_>], state: &EncoderState) -> Result<Vec<Packet>
             packets.len(),
             count,
         )
+    })
+}
+
+/// The image of the program that a mix and a seed give.
+pub fn generate_image(mix: Mix, seed: u64) -> Result<Vec<u8>, Status> {
+    // SAFETY: as above.
+    handed_out(|buffer, wanted| unsafe {
+        tracebench_generate_image(mix as u32, seed, buffer.as_mut_ptr(), buffer.len(), wanted)
+    })
+}
+
+/// Fills a slice with the next events of a hart. `walk` then has taken them.
+pub fn generate_events(
+    program: &[Piece<'_>],
+    walk: &mut WalkState,
+    events: &mut [Event],
+) -> Result<(), Status> {
+    let (pieces, count) = (program.as_ptr(), program.len());
+    // SAFETY: as above.
+    done(unsafe {
+        tracebench_generate_events(pieces, count, walk, events.as_mut_ptr(), events.len())
     })
 }
 

@@ -46,6 +46,8 @@ MAKES(push_all, OVER(tracebench_push_all, FIRST, EVENT(bytes), given->bytes.leng
       AT_ONCE(struct tracebench_packet)))
 MAKES(feed_all, OVER(tracebench_feed_all, FIRST, BYTES, ENDS, AT_ONCE(struct tracebench_event)))
 MAKES(version, tracebench_version(BUFFER))
+MAKES(generate_image, tracebench_generate_image(given->mode, given->number, BUFFER))
+MAKES(generate_events, OVER(tracebench_generate_events, FIRST, SECOND, given->harts))
 MAKES(follow, OVER(tracebench_follow, given->mode, EVENT(state), EVENT(other)))
 MAKES(check_events, OVER(tracebench_check_events, EVENT(bytes), given->bytes.length / sizeof(struct tracebench_event),
       FIRST))
@@ -149,6 +151,9 @@ static const struct span of_feed_all[] = {ONE(DONE), ONE(TOO_SMALL), ONE(MEMORY)
                                           SPAN(EMPTY, BAD_REPORT), SPAN(ODD_BASE, NOT_SORTED),
                                           SPAN(NOT_OPENED, AFTER_CLOSING_PACKET), ONE(BAD_STATE), END};
 static const struct span of_version[] = {ONE(DONE), ONE(TOO_SMALL), END};
+static const struct span of_generate_image[] = {ONE(DONE), ONE(TOO_SMALL), ONE(MEMORY), ONE(OUT_OF_RANGE), END};
+static const struct span of_generate_events[] = {ONE(DONE), ONE(MEMORY), ONE(OUT_OF_RANGE),
+                                                 SPAN(ODD_BASE, NOT_SORTED), END};
 
 static const struct span of_write_message[] = {ONE(DONE), ONE(TOO_SMALL), ONE(EMPTY), ONE(TOO_LONG), END};
 static const struct span of_read_message[] = {ONE(DONE), ONE(SHORT), ONE(BAD_LENGTH), END};
@@ -259,6 +264,15 @@ const struct call version = {
     .name = "version", .make = make_version, .statuses = of_version, .unit = 1,
 };
 
+const struct call generate_image = {
+    .name = "generate_image", .make = make_generate_image, .statuses = of_generate_image, .unit = 1,
+};
+const struct call generate_events = {
+    .name = "generate_events", .make = make_generate_events, .takes_image = true, .statuses = of_generate_events,
+    .first = ALL_OF(struct tracebench_walk_state), .second = {MOST_AT_ONCE * sizeof(struct tracebench_event), 0},
+    .written = WITH_DONE, .goes_on = true,
+};
+
 const struct call write_message = {
     .name = "write_message", .make = make_write_message, .statuses = of_write_message, .unit = 1,
 };
@@ -325,7 +339,7 @@ const struct call *const calls[CALLS] = {&pack, &unpack, &check, &encode, &dump,
                                          &push_all, &feed_all, &version, &write_message, &read_message,
                                          &write_header, &read_header, &capture_of_lines, &audit_all, &decode_all,
                                          &list_capture, &measure, &compare_logs, &explain, &salvage,
-                                         &list_salvaged};
+                                         &list_salvaged, &generate_image, &generate_events};
 
 bool is_listed(const struct span *spans, uint32_t status) {
     for (; spans->from <= spans->to; spans++)

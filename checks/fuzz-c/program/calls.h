@@ -64,7 +64,7 @@ struct call {
     bool (*is_short)(const struct answer *answer); /* too small is what is given besides the buffer; NULL: never */
 };
 
-enum { CALLS = 31, STATUSES = 256 };
+enum { CALLS = 33, STATUSES = 256 };
 
 /* Room for what is found of a path: arrays of these lengths, one after the other behind the message that is refused. */
 enum { MOST_HART_ROWS = 4, MOST_ARRIVALS = 64, MOST_LOST = 32, MOST_RUNS = 32 };
@@ -86,7 +86,7 @@ extern const struct call pack, unpack, check, encode, dump, encoder, push, finis
 extern const struct call follow, check_events, push_checked, receive, resume, push_all, feed_all, version;
 extern const struct call write_message, read_message, write_header, read_header, capture_of_lines, audit_all;
 extern const struct call decode_all, list_capture, measure, compare_logs, explain;
-extern const struct call salvage, list_salvaged;
+extern const struct call salvage, list_salvaged, generate_image, generate_events;
 
 /* All of them. */
 extern const struct call *const calls[CALLS];

@@ -32,6 +32,7 @@ struct program {
     struct pool decoded;  /* texts of hart 0 that tracebench_decode_all wrote */
     struct pool encoders; /* states that tracebench_push wrote */
     struct pool decoders; /* states that tracebench_feed wrote */
+    struct pool walks;    /* states that tracebench_generate_events wrote */
 };
 
 extern struct program *programs;

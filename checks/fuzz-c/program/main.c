@@ -19,6 +19,7 @@
 #include "paths.h"
 #include "slices.h"
 #include "steps.h"
+#include "stimulus.h"
 #include "texts.h"
 
 int main(int count, char **words) {
@@ -28,7 +29,7 @@ int main(int count, char **words) {
                                                       try_push_all, try_feed_all, try_version, try_messages,
                                                       try_headers, try_lines, try_audit_all, try_decode_all,
                                                       try_list, try_measure, try_compare, try_explain,
-                                                      try_salvage};
+                                                      try_salvage, try_generate_image, try_generate_events};
     if (count < 4 || count > 5 || (count == 5 && strcmp(words[4], "rows") != 0)) {
         fputs("usage: fuzz-c CORPUS SEED COUNT [rows]\n", stderr);
         return 2;

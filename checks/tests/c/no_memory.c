@@ -85,6 +85,10 @@ int main(void) {
     expect("check_events", tracebench_check_events(&program, 1, events, EVENTS, &row), 0);
     expect("rows", row, EVENTS);
 
+    struct tracebench_walk_state walk = {1, 0, 0, TRACEBENCH_MIXED, 0, 0, 0};
+    expect("generate_events", tracebench_generate_events(&program, 1, &walk, events, EVENTS), 0);
+    expect("check_events of them", tracebench_check_events(&program, 1, events, EVENTS, &row), 0);
+
     uint8_t bytes[29];
     struct tracebench_message message;
     struct tracebench_header header = {TRACEBENCH_FULL, 5, 2};

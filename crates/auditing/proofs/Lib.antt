@@ -13,6 +13,7 @@ pub mod Worked
 pub mod RunLemmas
 pub mod MeasuredRuns
 pub mod Moves
+pub mod OwnerTables
 pub mod Appending
 pub mod OwnMessages
 pub mod CountLemmas

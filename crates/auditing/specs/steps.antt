@@ -3,6 +3,7 @@ pub mod Summing
 pub mod Growing
 pub mod Indexing
 pub mod Moving
+pub mod Owning
 pub mod Taking
 pub mod Seeing
 pub mod Recognising

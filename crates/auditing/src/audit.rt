@@ -1,6 +1,6 @@
 //! The audit of a path.
 
-ghost use Rattle.std.specs.Prelude.{◌≡◌, ◌<◌, ◌^◌, ◌++◌, All, List, [], ◌∷◌, IfErr, IfOk, Option, length, map, option_map};
+ghost use Rattle.std.specs.Prelude.{◌≡◌, ◌<◌, ◌^◌, ◌++◌, All, List, [], ◌∷◌, IfErr, IfOk, Option, length, map, option_map, slice_get};
 ghost use Rattle.message.specs.Capture.{capture};
 ghost use Rattle.message.specs.Cut.{IsMessage};
 ghost use Rattle.message.specs.declared.header.Header.{Header as AnyHeader};
@@ -19,10 +19,11 @@ ghost use Rattle.auditing.specs.Sent.{AreInTurn, IsSent, IsSentFault, known_hart
 ghost use Rattle.auditing.specs.Tallies.{tally_of};
 ghost use Rattle.auditing.specs.steps.Indexing.{IsCountFault, harts_by};
 ghost use Rattle.auditing.specs.steps.Moving.{moves_by, owner_in};
+ghost use Rattle.auditing.specs.steps.Owning.{KeepsOwners};
 ghost use Rattle.auditing.specs.steps.Seeing.{sight_in};
-ghost use Rattle.auditing.specs.steps.Taking.{finding_from, first_after, ledger_after};
+ghost use Rattle.auditing.specs.steps.Taking.{finding_found, finding_from, first_after, harts_found, ledger_after};
 
-use crate::exchange::{count_moved, none_moved, owner};
+use crate::exchange::{count_moved, none_moved};
 use crate::fate::Fate;
 use crate::fault::SentFault;
 use crate::finding::Finding;
@@ -30,6 +31,7 @@ use crate::hart::HartAudit;
 use crate::indexing::index_messages;
 use crate::judging::count_messages;
 use crate::lost::LostRuns;
+use crate::owners::Owners;
 use crate::row::HartRow;
 use crate::tally::Tally;
 use frames::{BorrowedMessage, Sent, Sight};
@@ -43,7 +45,9 @@ const HEADER: usize = 16;
 
 /// What became of the messages of SENT, as far as the messages of RECEIVED were taken.
 ///
-/// As a [`Sent`] it knows the messages of SENT. Taking messages does not change that.
+/// As a [`Sent`] it knows the messages of SENT. Taking messages does not change that. It takes memory in one case: where
+/// many messages are not true, all of SENT are put in a table once, about 75 bytes each. Where an allocation for it
+/// fails, nothing differs but the time.
 #[derive(Drop)]
 pub struct Audit<'a, A: Allocator = Global> {
     /// By what payloads are compared.
@@ -60,6 +64,8 @@ pub struct Audit<'a, A: Allocator = Global> {
     first: Option<u64>,
     /// Of each hart how many of its messages that are not true are of each hart.
     moves: Vec<Vec<u64, A>, A>,
+    /// Whose the messages of SENT are.
+    owners: Owners<A>,
 }
 
 impl<'a, A: Allocator> Model for Audit<'a, A> {
@@ -74,6 +80,8 @@ impl<'a, A: Allocator> Model for Audit<'a, A> {
       first = a.first;
       moves = map (λ counts. counts.items) a.moves.items;
     } };
+
+    ghost invariant = { λ a. KeepsOwners a.by a.harts.items a.owners.complete a.owners.table };
 }
 
 impl<'a, A: Allocator + Copy> Audit<'a, A> {
@@ -152,6 +160,7 @@ impl<'a, A: Allocator + Copy> Audit<'a, A> {
         let count = count_of_harts(header, counted.highest);
         let index = index_messages(alloc, counted.counts.as_slice(), count, bytes)?;
         let moves = none_moved(alloc, usize::from(count))?;
+        let owners = Owners::new(alloc, index.as_slice());
         Ok(Audit {
             by,
             header,
@@ -160,33 +169,11 @@ impl<'a, A: Allocator + Copy> Audit<'a, A> {
             taken: 0,
             first: None,
             moves,
+            owners,
         })
     }
-}
 
-impl<'a, A: Allocator> Audit<'a, A> {
-    /// By what payloads are compared.
-    pub fn by(&self) -> By
-        ensures { result ≡ self.now.by }
-    {
-        self.by
-    }
-
-    /// The header of SENT, if it has one.
-    pub fn header(&self) -> Option<Header>
-        ensures { result ≡ self.now.header }
-    {
-        self.header
-    }
-
-    /// How many harts SENT has.
-    pub fn harts(&self) -> usize
-        ensures { result ≡ length self.now.harts }
-    {
-        self.harts.len()
-    }
-
-    /// Takes the next message of RECEIVED, and returns what became of it. Takes no memory.
+    /// Takes the next message of RECEIVED, and returns what became of it.
     pub fn take(&mut self, message: &Message) -> Fate
         ensures fate { (sent received : List AnyMessage) → Audits sent received self.old
             → result ≡ fate_of (known_all self.old.by sent) (known_all self.old.by received)
@@ -201,7 +188,7 @@ impl<'a, A: Allocator> Audit<'a, A> {
     }
 
     /// Takes the next message of RECEIVED as [`Audit::take`] does, and returns what is found of it: its fate, and how many
-    /// numbers it skips or by how much it is late. Takes no memory.
+    /// numbers it skips or by how much it is late.
     pub fn examine(&mut self, message: &Message) -> Finding
         ensures finding { (sent received : List AnyMessage) → Audits sent received self.old
             → result ≡ finding_of (known_all self.old.by sent) (known_all self.old.by received)
@@ -247,10 +234,7 @@ impl<'a, A: Allocator> Audit<'a, A> {
         ensures finding { result ≡ finding_from self.old.by self.old (message_of message.entry) }
         ensures after { self.new ≡ ledger_after self.old.by self.old (message_of message.entry) }
     {
-        let finding = match self.harts.get_mut(usize::from(message.hart)) {
-            Some(hart) => hart.take(message.number, message.payload, self.by),
-            None => Finding::Stranger,
-        };
+        let finding = take_of(&mut self.harts, message, self.by);
         if let Finding::Stranger = finding {
             self.strangers = self.strangers.saturating_add(1);
         }
@@ -270,11 +254,36 @@ impl<'a, A: Allocator> Audit<'a, A> {
               (owner_in self.old.by self.old.harts (message_of message.entry).number (message_of message.entry).payload);
         } }
     {
-        let by = self.by;
-        let owner = owner(self.harts.as_slice(), message.number, message.payload, by);
+        let harts = self.harts.as_slice();
+        let owner = self
+            .owners
+            .find(harts, message.number, message.payload, self.by);
         if let Some(owner) = owner {
             count_moved(&mut self.moves, usize::from(message.hart), owner);
         }
+    }
+}
+
+impl<'a, A: Allocator> Audit<'a, A> {
+    /// By what payloads are compared.
+    pub fn by(&self) -> By
+        ensures { result ≡ self.now.by }
+    {
+        self.by
+    }
+
+    /// The header of SENT, if it has one.
+    pub fn header(&self) -> Option<Header>
+        ensures { result ≡ self.now.header }
+    {
+        self.header
+    }
+
+    /// How many harts SENT has.
+    pub fn harts(&self) -> usize
+        ensures { result ≡ length self.now.harts }
+    {
+        self.harts.len()
     }
 
     /// The payload that SENT has with this hart and this number; `None` where it has none. Takes no memory.
@@ -353,6 +362,23 @@ impl<'a, A: Allocator> Sent for Audit<'a, A> {
 
     fn knows_none(&self) -> bool {
         true
+    }
+}
+
+/// Takes the next message of RECEIVED of these harts, and returns what is found of it.
+#[inline(always)]
+fn take_of<A: Allocator>(
+    harts: &mut Vec<HartAudit<'_, A>, A>,
+    message: BorrowedMessage<'_>,
+    by: By,
+) -> Finding
+    ensures finding { result ≡ finding_found by (slice_get harts.old.items message.entry.hart) (message_of message.entry) }
+    ensures after { harts.new.items ≡ harts_found by harts.old.items (message_of message.entry)
+        (slice_get harts.old.items message.entry.hart) }
+{
+    match harts.get_mut(usize::from(message.hart)) {
+        Some(hart) => hart.take(message.number, message.payload, by),
+        None => Finding::Stranger,
     }
 }
 

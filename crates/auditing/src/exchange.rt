@@ -2,10 +2,8 @@
 
 ghost use Rattle.std.specs.Prelude.{◌≡◌, IfOk, List, map, ℕ};
 ghost use Rattle.auditing.specs.Exchanged.{first_exchanged, is_most};
-ghost use Rattle.auditing.specs.steps.Moving.{changed_at, counted_once, moved_more, none_moved, owner_in};
+ghost use Rattle.auditing.specs.steps.Moving.{changed_at, counted_once, moved_more, none_moved};
 
-use crate::hart::HartAudit;
-use payload::By;
 use std::alloc::{AllocError, Allocator};
 
 /// The hart of SENT that most messages of another hart are of, which are not true.
@@ -29,28 +27,6 @@ pub(crate) fn none_moved<A: Allocator + Copy>(
         moves.push(vec![in alloc; 0; harts]?)?;
     }
     Ok(moves)
-}
-
-/// The only hart that has a message with this number and this payload, if there is just one.
-pub(crate) fn owner<A: Allocator>(
-    harts: &[HartAudit<'_, A>],
-    number: u64,
-    payload: &[u8],
-    by: By,
-) -> Option<usize>
-    ensures { result ≡ owner_in by harts.now number payload.now }
-{
-    let mut owner = None;
-    for hart in 0..harts.len() {
-        let own = &harts[hart];
-        if own.has(number, payload, by) {
-            if owner.is_some() {
-                return None;
-            }
-            owner = Some(hart);
-        }
-    }
-    owner
 }
 
 /// Counts one message more of a hart that is of another one.

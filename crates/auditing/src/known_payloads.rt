@@ -74,7 +74,7 @@ impl<A: Allocator + Copy> KnownPayloads<A> {
 }
 
 /// The bytes of a payload.
-fn bytes_of(payload: &Payload) -> ArrayVec<u8, MOST_BYTES>
+pub(crate) fn bytes_of(payload: &Payload) -> ArrayVec<u8, MOST_BYTES>
     ensures { result.items ≡ payload.now }
 {
     match ArrayVec::try_from(payload.bytes()) {

@@ -8,7 +8,7 @@
 //! shows.
 //!
 //! Payloads are compared by their bytes and never unpacked, or with [`Audit::with`] by the packets that they unpack to.
-//! Of the calls of [`Audit`] only [`Audit::new`] and [`Audit::with`] take memory.
+//! Of the calls of [`Audit`] only [`Audit::new`] and [`Audit::with`] fail where an allocation does.
 //!
 //! Where messages carry no numbers, a damaged RECEIVED is read by [`KnownPayloads`], the payloads that SENT has of each
 //! hart. Then SENT and RECEIVED are lists of messages. [`aligned_harts`] aligns the payloads of
@@ -38,6 +38,7 @@ mod judging;
 mod known_payloads;
 mod laws;
 mod lost;
+mod owners;
 mod planning;
 mod row;
 mod sent_payloads;

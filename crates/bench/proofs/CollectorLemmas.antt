@@ -1,7 +1,7 @@
 -- What a collector has at first, where a hart is refused, and at its end.
 use Rattle.std.proofs.Common.{◌≡◌, ◌≢◌, ◌+◌, ◌<◌, ◌≤◌, ⊎_elim, ℕ, Bool, true, false, All, List, [], ◌∷◌, ◌++◌, Some}
 use Rattle.std.proofs.Common.{None, if◌then◌else◌, length, take, drop, set, get_or, replicate, slice_get, refl, sym, ap}
-use Rattle.std.proofs.Common.{subst, ◌∙◌, add-one, arith}
+use Rattle.std.proofs.Common.{subst, true≢false, ◌∙◌, add-one, arith}
 use Rattle.std.specs.Prelude.{IsSomeAnd}
 use Rattle.std.specs.Option.{option_map}
 use Rattle.std.specs.declared.vec.Vec.{Vec}
@@ -35,6 +35,14 @@ replicate-at : {X : Type 0} (n : ℕ) (x : X) (i : ℕ) → i < n → slice_get 
 replicate-at n x i within =
     slice_get-get_or (replicate n x) i x (omega (arith, within, length-replicate n x))
     ∙ ap Some (get_or-replicate n i x x within)
+
+-- Where no flag is set, none is.
+pub none_set : (n : ℕ) (flags : List Bool) (i : ℕ) → flags ≡ replicate n false → ¬ (slice_get flags i ≡ Some true)
+none_set n flags i is = λ at.
+    let known = slice_get_within flags i true at in
+    let count = ap length is in
+    let off = replicate-at n false i (omega (arith, known, count, length-replicate n false)) in
+    true≢false (sym (same_Some false true (sym (ap (λ all. slice_get all i) is ∙ off) ∙ at)))
 
 -- With one more behind it.
 replicate-next : {X : Type 0} (n : ℕ) (x : X) → replicate n x ++ x ∷ [] ≡ replicate (n + 1) x

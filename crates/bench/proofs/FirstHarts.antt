@@ -16,6 +16,12 @@ is_on false off = absurd (off refl)
 apart : (b : Bool) → b ≡ true → b ≡ false → ⊥
 apart b on off = cc
 
+-- Where something holds of the one at a place, the place is within the list.
+place_within : {X : Type 0} (P : X → Type 0) (xs : List X) (i : ℕ) (found : Option X) → slice_get xs i ≡ found
+    → IsSomeAnd found P → i < length xs
+place_within P xs i None is given = absurd given
+place_within P xs i (Some x) is given = slice_get_within xs i x is
+
 -- A flag at a place that is not set.
 pub flag_off : (flags : List Bool) (h : ℕ) (d : Bool) → h < length flags → get_or flags h d ≡ false
     → ¬ (slice_get flags h ≡ Some true)
@@ -29,6 +35,13 @@ module _ {A : Type 0} (harts : List (HartOutcome A)) where
 
   abbrev has_ended : HartOutcome A → Type 0
   has_ended came = IsFalse came.closed × IsFalse came.refused
+
+  -- There is a hart that is open, and one whose channel ended.
+  pub open_within : (h : ℕ) → IsOpenHart harts h → h < length harts
+  open_within h given = place_within is_open harts h (slice_get harts h) refl given
+
+  pub ended_within : (h : ℕ) → IsOpenNotRefused harts h → h < length harts
+  ended_within h given = place_within has_ended harts h (slice_get harts h) refl given
 
   -- The hart at a place is open where its outcome is not closed.
   pub open_here : (h : ℕ) (d : HartOutcome A) → h < length harts → (get_or harts h d).closed ≡ false
@@ -60,11 +73,6 @@ module _ {A : Type 0} (harts : List (HartOutcome A)) where
       → AreClosed harts
   all_closed n over none = λ k d low.
       is_on (get_or harts k d).closed (λ opened. none k (omega (arith, low, over)) (open_here k d low opened))
-
-  open_within : (h : ℕ) (o : Option (HartOutcome A)) → slice_get harts h ≡ o → IsSomeAnd o is_open
-      → h < length harts
-  open_within h None at opened = absurd opened
-  open_within h (Some came) at opened = slice_get_within harts h came at
 
   -- An allocation for an open hart failed where the channel of none ended.
   pub open_refused : (h : ℕ) → ClosedUnlessRefused harts → IsOpenHart harts h
@@ -98,5 +106,4 @@ module _ {A : Type 0} (harts : List (HartOutcome A)) where
   pub none_back : (flags : List Bool) (n : ℕ) → length harts ≤ n
       → ((before : ℕ) → before < n → ¬ IsHandedBack harts flags before) → IsOfNone (IsHandedBack harts flags)
   none_back flags n over none = λ hart both.
-      let within = open_within hart (slice_get harts hart) refl both.0 in
-      none hart (omega (arith, within, over)) both
+      let known = open_within hart both.0 in none hart (omega (arith, known, over)) both

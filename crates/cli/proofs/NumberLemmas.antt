@@ -1,10 +1,14 @@
 -- The number that a text spells, and a count that is given by it.
-use Rattle.std.proofs.Common.{ℕ, ◌≡◌, ◌∙◌, ◌<◌, ◌≤◌, ◌^◌, ap, arith, refl, sym, Option, Some, None, unwrap_or}
+use Rattle.std.proofs.Common.{ℕ, ◌≡◌, ◌∙◌, ◌<◌, ◌≤◌, ◌^◌, ap, arith, refl, sym, List, Option, Some, None, unwrap_or}
 use Rattle.std.specs.Prelude.{Result}
 use Rattle.std.specs.Str.Parse.{IsNumeral, ParsesUnsigned, without_leading_plus}
 use Rattle.clap.specs.Matches.{ReadsOne}
-use Rattle.clap.specs.Words.{Text}
-use Rattle.cli.specs.Asking.{IsGivenUpTo, decimal}
+use Rattle.clap.specs.Words.{Row, Text}
+use Rattle.command_inputs.specs.Limits.{IsWithinLimits}
+use Rattle.command_inputs.specs.declared.words.Asked.{Asked}
+use Rattle.command_inputs.specs.declared.words.Asked.TheVariants.{Audit, Bench, Capture, Check, Decode, Dump, Encode}
+use Rattle.command_inputs.specs.declared.words.Asked.TheVariants.{Compare, Generate, Listing, Measure, Replay, Salvage}
+use Rattle.cli.specs.Asking.{Asks, IsGivenUpTo, decimal}
 
 -- A text that spells a number of so many bits was read as that number, whatever else is known of the reading.
 pub read_as_spelt : {E : Type 0} (bits : ℕ) (More Also : Text → Result ℕ E → Type 0) (most : ℕ) (text : Text)
@@ -56,3 +60,19 @@ module _ {E : Type 0} (bits : ℕ) (More Also : Text → Result ℕ E → Type 0
         ∙ read_as_spelt bits More Also most text read 0 fits (reads text given) spelt.0 spelt.2 in
         let empty : ⊥ = omega (arith, spells, spelt.1) in absurd empty),
   )
+
+-- The numbers of what is asked are within their limits.
+pub within_limits : (name : Text) (rows : List Row) (asked : Asked) → Asks name rows asked → IsWithinLimits asked
+within_limits name rows (Check asked) asks = tt
+within_limits name rows (Encode asked) asks = (asks.2.0, asks.2.1, asks.7.1, asks.8.1)
+within_limits name rows (Dump asked) asks = tt
+within_limits name rows (Decode asked) asks = (asks.2.0, asks.2.1)
+within_limits name rows (Replay asked) asks = (asks.2.0, asks.2.1, asks.4.0, asks.4.1)
+within_limits name rows (Bench asked) asks = (asks.2.0, asks.2.1, asks.4.0, asks.4.1)
+within_limits name rows (Audit asked) asks = tt
+within_limits name rows (Measure asked) asks = (asks.2.0, asks.2.1)
+within_limits name rows (Listing asked) asks = asks.2.1
+within_limits name rows (Salvage asked) asks = asks.2.1
+within_limits name rows (Capture asked) asks = (asks.3.0, asks.3.1, asks.4.1, asks.5.1)
+within_limits name rows (Compare asked) asks = (asks.2.0, asks.2.1)
+within_limits name rows (Generate asked) asks = (asks.5.1, asks.6.1, asks.7.1, asks.8.1, asks.9.1, asks.12.1)

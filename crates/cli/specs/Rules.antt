@@ -13,8 +13,6 @@ use Rattle.retire.specs.Log.{most_long_rows}
 use Rattle.message.specs.declared.header.Version.TheVariants.{Two}
 use Rattle.command_inputs.specs.Limits.{fewest_number_bits, greatest_first, longest_burst, longest_period}
 use Rattle.command_inputs.specs.Limits.{most_messages, most_number_bits}
-use Rattle.cli.specs.declared.rules.Argument.{Argument}
-use Rattle.cli.specs.declared.rules.Argument.TheVariants as argument
 
 -- `--name`, which takes no value.
 abbrev pub flag_rule : Text → Rule
@@ -77,60 +75,134 @@ abbrev pub one_or_more : ValueRange
 one_or_more = record { start_inclusive = 1; end_inclusive = usize_max }
 
 -- How each argument is read. The base and each file have to be given; what has a default is that where it is not given.
-abbrev pub argument_rule : Argument → Rule
-argument_rule argument.Also = record (option_rule (codes "also")) { action = Some Append }
-argument_rule argument.Base = record (option_rule (codes "base")) { required = true }
-argument_rule argument.Burst = number_rule (codes "burst") burst_parser
-argument_rule argument.Capacity = record (number_rule (codes "capacity") capacity_parser) { defaults = codes "16" ∷ [] }
-argument_rule argument.Capture = file_rule (codes "CAPTURE")
-argument_rule argument.CaptureProgress = flag_rule (codes "progress")
-argument_rule argument.CountedHarts = count_rule (codes "harts")
-argument_rule argument.Events = number_rule (codes "events") (long_parser most_long_rows)
-argument_rule argument.Explain = flag_rule (codes "explain")
-argument_rule argument.ExplainRow = flag_rule (codes "explain")
-argument_rule argument.ExplainSymbols = option_rule (codes "symbols")
-argument_rule argument.First = hart_rule (codes "first")
-argument_rule argument.Format = record (option_rule (codes "format")) { defaults = codes "text" ∷ [] }
-argument_rule argument.Full = flag_rule (codes "full")
-argument_rule argument.GivenBase = record (option_rule (codes "base")) { defaults = codes "80000000" ∷ [] }
-argument_rule argument.GivenPeriod = number_rule (codes "period") period_parser
-argument_rule argument.Hart = hart_rule (codes "hart")
-argument_rule argument.Harts = record (count_rule (codes "harts")) { defaults = codes "1" ∷ [] }
-argument_rule argument.HeadedFull = flag_rule (codes "full")
-argument_rule argument.HeadedPeriod = record (number_rule (codes "period") period_parser) { defaults = codes "1024" ∷ [] }
-argument_rule argument.Headless = flag_rule (codes "v1")
-argument_rule argument.Hex = flag_rule (codes "hex")
-argument_rule argument.Image = file_rule (codes "IMAGE")
-argument_rule argument.Lines = file_rule (codes "LINES")
-argument_rule argument.ListedHarts = count_rule (codes "harts")
-argument_rule argument.Logs = record (file_rule (codes "LOG")) { action = Some Append; range = Some one_or_more }
-argument_rule argument.Long = flag_rule (codes "long")
-argument_rule argument.Lossy = flag_rule (codes "lossy")
-argument_rule argument.Messages = number_rule (codes "messages") (long_parser most_messages)
-argument_rule argument.Mix = record (option_rule (codes "mix")) { defaults = codes "mixed" ∷ [] }
-argument_rule argument.Mixed = number_rule (codes "mixed") seed_parser
-argument_rule argument.MixedHarts = count_rule (codes "harts")
-argument_rule argument.NumberBits = number_rule (codes "number-bits") bits_parser
-argument_rule argument.Of = count_rule (codes "of")
-argument_rule argument.Only = option_rule (codes "only")
-argument_rule argument.Packets = flag_rule (codes "packets")
-argument_rule argument.Period = record (number_rule (codes "period") period_parser) { defaults = codes "1024" ∷ [] }
-argument_rule argument.Progress = flag_rule (codes "progress")
-argument_rule argument.Received = file_rule (codes "RECEIVED")
-argument_rule argument.Rows = flag_rule (codes "rows")
-argument_rule argument.Salvaged = flag_rule (codes "salvage")
-argument_rule argument.SalvagedHarts = count_rule (codes "harts")
-argument_rule argument.Schedule = file_rule (codes "SCHEDULE")
-argument_rule argument.Search = flag_rule (codes "search")
-argument_rule argument.Seed = record (number_rule (codes "seed") seed_parser) { defaults = codes "1" ∷ [] }
-argument_rule argument.Sent = file_rule (codes "SENT")
-argument_rule argument.Skip = flag_rule (codes "skip")
-argument_rule argument.Summary = flag_rule (codes "summary")
-argument_rule argument.Symbols = option_rule (codes "symbols")
-argument_rule argument.Unnumbered = flag_rule (codes "unnumbered")
-argument_rule argument.VersionOne = flag_rule (codes "v1")
-argument_rule argument.What = file_rule (codes "WHAT")
-argument_rule argument.WithoutLogs = flag_rule (codes "summary")
+abbrev pub also : Rule
+also = record (option_rule (codes "also")) { action = Some Append }
+
+abbrev pub base : Rule
+base = record (option_rule (codes "base")) { required = true }
+
+abbrev pub burst : Rule
+burst = number_rule (codes "burst") burst_parser
+
+abbrev pub capacity : Rule
+capacity = record (number_rule (codes "capacity") capacity_parser) { defaults = codes "16" ∷ [] }
+
+abbrev pub capture : Rule
+capture = file_rule (codes "CAPTURE")
+
+abbrev pub given_harts : Rule
+given_harts = count_rule (codes "harts")
+
+abbrev pub events : Rule
+events = number_rule (codes "events") (long_parser most_long_rows)
+
+abbrev pub explain : Rule
+explain = flag_rule (codes "explain")
+
+abbrev pub first : Rule
+first = hart_rule (codes "first")
+
+abbrev pub format : Rule
+format = record (option_rule (codes "format")) { defaults = codes "text" ∷ [] }
+
+abbrev pub full : Rule
+full = flag_rule (codes "full")
+
+abbrev pub given_base : Rule
+given_base = record (option_rule (codes "base")) { defaults = codes "80000000" ∷ [] }
+
+abbrev pub given_period : Rule
+given_period = number_rule (codes "period") period_parser
+
+abbrev pub hart : Rule
+hart = hart_rule (codes "hart")
+
+abbrev pub harts : Rule
+harts = record (count_rule (codes "harts")) { defaults = codes "1" ∷ [] }
+
+abbrev pub hex : Rule
+hex = flag_rule (codes "hex")
+
+abbrev pub image : Rule
+image = file_rule (codes "IMAGE")
+
+abbrev pub lines : Rule
+lines = file_rule (codes "LINES")
+
+abbrev pub logs : Rule
+logs = record (file_rule (codes "LOG")) { action = Some Append; range = Some one_or_more }
+
+abbrev pub long : Rule
+long = flag_rule (codes "long")
+
+abbrev pub lossy : Rule
+lossy = flag_rule (codes "lossy")
+
+abbrev pub messages : Rule
+messages = number_rule (codes "messages") (long_parser most_messages)
+
+abbrev pub mix : Rule
+mix = record (option_rule (codes "mix")) { defaults = codes "mixed" ∷ [] }
+
+abbrev pub mixed : Rule
+mixed = number_rule (codes "mixed") seed_parser
+
+abbrev pub number_bits : Rule
+number_bits = number_rule (codes "number-bits") bits_parser
+
+abbrev pub of : Rule
+of = count_rule (codes "of")
+
+abbrev pub only : Rule
+only = option_rule (codes "only")
+
+abbrev pub packets : Rule
+packets = flag_rule (codes "packets")
+
+abbrev pub period : Rule
+period = record (number_rule (codes "period") period_parser) { defaults = codes "1024" ∷ [] }
+
+abbrev pub progress : Rule
+progress = flag_rule (codes "progress")
+
+abbrev pub received : Rule
+received = file_rule (codes "RECEIVED")
+
+abbrev pub rows : Rule
+rows = flag_rule (codes "rows")
+
+abbrev pub salvage : Rule
+salvage = flag_rule (codes "salvage")
+
+abbrev pub schedule : Rule
+schedule = file_rule (codes "SCHEDULE")
+
+abbrev pub search : Rule
+search = flag_rule (codes "search")
+
+abbrev pub seed : Rule
+seed = record (number_rule (codes "seed") seed_parser) { defaults = codes "1" ∷ [] }
+
+abbrev pub sent : Rule
+sent = file_rule (codes "SENT")
+
+abbrev pub skip : Rule
+skip = flag_rule (codes "skip")
+
+abbrev pub summary : Rule
+summary = flag_rule (codes "summary")
+
+abbrev pub symbols : Rule
+symbols = option_rule (codes "symbols")
+
+abbrev pub unnumbered : Rule
+unnumbered = flag_rule (codes "unnumbered")
+
+abbrev pub version_one : Rule
+version_one = flag_rule (codes "v1")
+
+abbrev pub what : Rule
+what = file_rule (codes "WHAT")
 
 -- The argument is read by this rule, and by its own subcommand alone.
 abbrev pub IsReadBy : Rule → Arg → Type 0

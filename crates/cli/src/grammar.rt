@@ -10,15 +10,14 @@ use crate::help::{
     DUMP_EXAMPLE, ENCODE_EXAMPLE, EXIT_STATUSES, GENERATE_EXAMPLE, LIST_EXAMPLE, MEASURE_EXAMPLE,
     REPLAY_EXAMPLE, SALVAGE_EXAMPLE, VERSION,
 };
-use crate::rules::Argument::{
-    Also, Base, Burst, Capacity, Capture, CaptureProgress, CountedHarts, Events, Explain,
-    ExplainRow, ExplainSymbols, First, Format, Full, GivenBase, GivenPeriod, Hart, Harts,
-    HeadedFull, HeadedPeriod, Headless, Hex, Image, Lines, ListedHarts, Logs, Long, Lossy,
-    Messages, Mix, Mixed, MixedHarts, NumberBits, Of, Only, Packets, Period, Progress, Received,
-    Rows, Salvaged, SalvagedHarts, Schedule, Search, Seed, Sent, Skip, Summary, Symbols,
-    Unnumbered, VersionOne, What, WithoutLogs,
+use crate::rules::{
+    ALSO, Argument, BASE, BURST, CAPACITY, CAPTURE, CAPTURE_PROGRESS, COUNTED_HARTS, EVENTS,
+    EXPLAIN, EXPLAIN_ROW, EXPLAIN_SYMBOLS, FIRST, FORMAT, FULL, GIVEN_BASE, GIVEN_PERIOD, HART,
+    HARTS, HEADED_FULL, HEADED_PERIOD, HEADLESS, HEX, IMAGE, LINES, LISTED_HARTS, LOGS, LONG,
+    LOSSY, MESSAGES, MIX, MIXED, MIXED_HARTS, NUMBER_BITS, OF, ONLY, PACKETS, PERIOD, PROGRESS,
+    RECEIVED, ROWS, SALVAGED, SALVAGED_HARTS, SCHEDULE, SEARCH, SEED, SENT, SKIP, SUMMARY, SYMBOLS,
+    UNNUMBERED, VERSION_ONE, WHAT, WITHOUT_LOGS, arg_of,
 };
-use crate::rules::{Argument, arg_of};
 use clap::Command;
 use std::alloc::{AllocError, Global};
 
@@ -38,14 +37,14 @@ const SUBCOMMANDS: [Subcommand; 13] = [
         about: "Check whether logs are legal",
         example: CHECK_EXAMPLE,
         arguments: &[
-            Base,
-            Also,
-            Explain,
-            ExplainSymbols,
-            Long,
-            Progress,
-            Image,
-            Logs,
+            BASE,
+            ALSO,
+            EXPLAIN,
+            EXPLAIN_SYMBOLS,
+            LONG,
+            PROGRESS,
+            IMAGE,
+            LOGS,
         ],
     },
     Subcommand {
@@ -53,29 +52,40 @@ const SUBCOMMANDS: [Subcommand; 13] = [
         about: "Write the trace messages of logs",
         example: ENCODE_EXAMPLE,
         arguments: &[
-            Base, Also, Period, Full, VersionOne, Hex, Mixed, First, Of, Long, Progress, Image,
-            Logs,
+            BASE,
+            ALSO,
+            PERIOD,
+            FULL,
+            VERSION_ONE,
+            HEX,
+            MIXED,
+            FIRST,
+            OF,
+            LONG,
+            PROGRESS,
+            IMAGE,
+            LOGS,
         ],
     },
     Subcommand {
         name: "dump",
         about: "Write the messages of a capture as text",
         example: DUMP_EXAMPLE,
-        arguments: &[Search, Only, Symbols, CaptureProgress, Capture],
+        arguments: &[SEARCH, ONLY, SYMBOLS, CAPTURE_PROGRESS, CAPTURE],
     },
     Subcommand {
         name: "decode",
         about: "Write the logs that the messages of a capture describe",
         example: DECODE_EXAMPLE,
         arguments: &[
-            Base,
-            Also,
-            Harts,
-            Only,
-            Lossy,
-            CaptureProgress,
-            Image,
-            Capture,
+            BASE,
+            ALSO,
+            HARTS,
+            ONLY,
+            LOSSY,
+            CAPTURE_PROGRESS,
+            IMAGE,
+            CAPTURE,
         ],
     },
     Subcommand {
@@ -83,52 +93,52 @@ const SUBCOMMANDS: [Subcommand; 13] = [
         about: "Send logs through the funnel as a schedule says, and report what is decoded",
         example: REPLAY_EXAMPLE,
         arguments: &[
-            Base, Also, Period, Full, Capacity, Progress, Image, Schedule, Logs,
+            BASE, ALSO, PERIOD, FULL, CAPACITY, PROGRESS, IMAGE, SCHEDULE, LOGS,
         ],
     },
     Subcommand {
         name: "bench",
         about: "Send logs through the funnel, each from a thread of its own, and report what is decoded",
         example: BENCH_EXAMPLE,
-        arguments: &[Base, Also, Period, Full, Capacity, Progress, Image, Logs],
+        arguments: &[BASE, ALSO, PERIOD, FULL, CAPACITY, PROGRESS, IMAGE, LOGS],
     },
     Subcommand {
         name: "audit",
         about: "Compare a capture that came with the one that was sent, message by message",
         example: AUDIT_EXAMPLE,
         arguments: &[
-            Packets,
-            Unnumbered,
-            Only,
-            Summary,
-            Format,
-            CaptureProgress,
-            Sent,
-            Received,
+            PACKETS,
+            UNNUMBERED,
+            ONLY,
+            SUMMARY,
+            FORMAT,
+            CAPTURE_PROGRESS,
+            SENT,
+            RECEIVED,
         ],
     },
     Subcommand {
         name: "measure",
         about: "Count the packets and bytes that logs take, as CSV",
         example: MEASURE_EXAMPLE,
-        arguments: &[Base, Also, Period, Full, Long, Progress, Image, Logs],
+        arguments: &[BASE, ALSO, PERIOD, FULL, LONG, PROGRESS, IMAGE, LOGS],
     },
     Subcommand {
         name: "list",
         about: "List what each message of a capture says and settles",
         example: LIST_EXAMPLE,
         arguments: &[
-            Base,
-            Also,
-            ListedHarts,
-            Only,
-            Symbols,
-            Rows,
-            Salvaged,
-            Format,
-            CaptureProgress,
-            Image,
-            Capture,
+            BASE,
+            ALSO,
+            LISTED_HARTS,
+            ONLY,
+            SYMBOLS,
+            ROWS,
+            SALVAGED,
+            FORMAT,
+            CAPTURE_PROGRESS,
+            IMAGE,
+            CAPTURE,
         ],
     },
     Subcommand {
@@ -136,16 +146,16 @@ const SUBCOMMANDS: [Subcommand; 13] = [
         about: "Write what is left of the log of each hart after any damage to a capture",
         example: SALVAGE_EXAMPLE,
         arguments: &[
-            Base,
-            Also,
-            SalvagedHarts,
-            Only,
-            Symbols,
-            WithoutLogs,
-            Format,
-            CaptureProgress,
-            Image,
-            Capture,
+            BASE,
+            ALSO,
+            SALVAGED_HARTS,
+            ONLY,
+            SYMBOLS,
+            WITHOUT_LOGS,
+            FORMAT,
+            CAPTURE_PROGRESS,
+            IMAGE,
+            CAPTURE,
         ],
     },
     Subcommand {
@@ -153,13 +163,13 @@ const SUBCOMMANDS: [Subcommand; 13] = [
         about: "Write the capture of lines, each of one message, as `encode --hex` prints them",
         example: CAPTURE_EXAMPLE,
         arguments: &[
-            Headless,
-            HeadedFull,
-            HeadedPeriod,
-            CountedHarts,
-            NumberBits,
-            Skip,
-            Lines,
+            HEADLESS,
+            HEADED_FULL,
+            HEADED_PERIOD,
+            COUNTED_HARTS,
+            NUMBER_BITS,
+            SKIP,
+            LINES,
         ],
     },
     Subcommand {
@@ -167,7 +177,17 @@ const SUBCOMMANDS: [Subcommand; 13] = [
         about: "Say whether a capture describes just these logs",
         example: COMPARE_EXAMPLE,
         arguments: &[
-            Base, Also, Harts, Only, ExplainRow, Symbols, Long, Progress, Image, Capture, Logs,
+            BASE,
+            ALSO,
+            HARTS,
+            ONLY,
+            EXPLAIN_ROW,
+            SYMBOLS,
+            LONG,
+            PROGRESS,
+            IMAGE,
+            CAPTURE,
+            LOGS,
         ],
     },
     Subcommand {
@@ -175,18 +195,18 @@ const SUBCOMMANDS: [Subcommand; 13] = [
         about: "Make an image, a log or a capture from a seed, for a path without a core",
         example: GENERATE_EXAMPLE,
         arguments: &[
-            What,
-            Seed,
-            Mix,
-            GivenBase,
-            Hart,
-            Events,
-            MixedHarts,
-            Messages,
-            GivenPeriod,
-            Full,
-            Headless,
-            Burst,
+            WHAT,
+            SEED,
+            MIX,
+            GIVEN_BASE,
+            HART,
+            EVENTS,
+            MIXED_HARTS,
+            MESSAGES,
+            GIVEN_PERIOD,
+            FULL,
+            HEADLESS,
+            BURST,
         ],
     },
 ];
@@ -199,7 +219,7 @@ fn command_of<'a>(alloc: Global, subcommand: &Subcommand) -> Result<Command<'a>,
         .about(subcommand.about)
         .after_help(subcommand.example);
     for argument in subcommand.arguments {
-        command = command.arg(arg_of(alloc, *argument))?;
+        command = command.arg(arg_of(alloc, argument))?;
     }
     Ok(command)
 }
@@ -220,14 +240,20 @@ fn with_subcommands<'a>(
     Ok(program)
 }
 
+/// The program without its subcommands.
+fn bare<'a>(alloc: Global) -> Command<'a>
+    ensures { HasGrammar bare_program result }
+{
+    Command::new(alloc, "tracebench")
+        .about("A bench for RISC-V instruction trace (E-Trace)")
+        .version(VERSION)
+        .after_help(EXIT_STATUSES)
+        .subcommand_required(true)
+}
+
 /// The program with all its subcommands.
 pub(crate) fn program<'a>(alloc: Global) -> Result<Command<'a>, AllocError>
     ensures { IfOk result (HasGrammar program_app) }
 {
-    let bare = Command::new(alloc, "tracebench")
-        .about("A bench for RISC-V instruction trace (E-Trace)")
-        .version(VERSION)
-        .after_help(EXIT_STATUSES)
-        .subcommand_required(true);
-    with_subcommands(alloc, bare, &SUBCOMMANDS)
+    with_subcommands(alloc, bare(alloc), &SUBCOMMANDS)
 }

@@ -4,7 +4,6 @@
 #![tactic(auto)]
 
 mod asking;
-mod forms;
 mod grammar;
 mod help;
 mod rules;

@@ -78,7 +78,10 @@ where
     ensures done { IsDone (F.content files.old) asked.entry result (O.contents out.old) (O.contents out.new)
         E.contents err.old err.new }
 {
-    match carry_out(alloc, rt, files, &asked, out) {
+    let ended = carry_out(alloc, rt, files, &asked, out);
+    // Each subcommand has other arguments: dropped here, they part no way to the end.
+    drop(asked);
+    match ended {
         Ok(status) => status,
         Err(fault) => report_error(err, &fault),
     }

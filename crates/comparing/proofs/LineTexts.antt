@@ -10,14 +10,13 @@ use Rattle.std.specs.Prelude.{◌&&◌, is_none, is_some, not}
 use Rattle.output.specs.Begun.{AppendsBeginning}
 use Rattle.output.proofs.Beginnings.{begun_behind}
 use Rattle.bench.specs.Got.{Got}
-use Rattle.bench.specs.Report.{are_whole, is_whole_verdict, report_lines, result_line}
+use Rattle.bench.specs.Report.{are_whole, is_whole_verdict, result_line}
 use Rattle.bench.specs.Verdict.{verdict}
 use Rattle.captures.specs.declared.outcome.CaptureFault.{CaptureFault}
 use Rattle.legalpath.specs.ProgramLog.{ProgramLog}
-use Rattle.comparing.specs.Compared.{comparison_text, comparison_text_of, is_compared_whole}
+use Rattle.comparing.specs.Compared.{is_compared_whole}
 use Rattle.comparing.specs.Explained.{are_whole_sourced, explained_harts, is_whole_hart, is_whole_sourced}
 use Rattle.comparing.specs.Sourced.{AreNumbered, AreSourced}
-use Rattle.comparing.specs.Lines.{are_whole_lines, is_whole_line, line_of, line_text, lines_of, lines_text}
 use Rattle.comparing.specs.declared.explained.ExplainedHart.{ExplainedHart}
 use Rattle.comparing.specs.declared.sourcing.SourcedHart.{SourcedHart}
 use Rattle.rvclass.specs.Words.{Words}
@@ -38,68 +37,22 @@ module _ {X : Type 0} (text_of : X → List ℕ) (all : List X) (i : ℕ) (one :
       subst (Appends old new) (sym more)
       (Appends-trans old mid new (flat_map text_of (take i all)) (text_of one) first then)
 
--- The lines are written, and then the line of the result or a prefix of it.
-pub report_begun : (ended whole all : Bool) (lines : List ℕ) (old mid new : Option (List ℕ)) → whole ≡ all
-    → Appends old mid lines → AppendsBeginning (result_line (ended && whole)) mid new
-    → AppendsBeginning (lines ++ result_line (ended && all)) old new
-report_begun ended whole all lines old mid new is text begun =
-    begun_behind lines (result_line (ended && all)) old mid new text
-    (subst (λ whole. AppendsBeginning (result_line (ended && whole)) mid new) is begun)
-
 -- Whether there is no stop, told by whether there is one.
-pub none_is : (stop : Option (ℕ × CaptureFault)) (none : Bool) → is_some stop ≡ not none → none ≡ is_none stop
+none_is : (stop : Option (ℕ × CaptureFault)) (none : Bool) → is_some stop ≡ not none → none ≡ is_none stop
 none_is None true is = refl
 none_is None false is = absurd (true≢false (sym is))
 none_is (Some at) true is = absurd (true≢false is)
 none_is (Some at) false is = refl
 
--- The same where decoding stops there, or comes to the end.
+-- The lines are written, and then the line of the result or a prefix of it. Decoding stops there, or comes to the end.
 pub ended_begun : (stop : Option (ℕ × CaptureFault)) (ended whole all : Bool) (lines : List ℕ)
     (old mid new : Option (List ℕ)) → is_some stop ≡ not ended → whole ≡ all → Appends old mid lines
     → AppendsBeginning (result_line (ended && whole)) mid new
     → AppendsBeginning (lines ++ result_line (is_none stop && all)) old new
 ended_begun stop ended whole all lines old mid new is same text begun =
     subst (λ ended. AppendsBeginning (lines ++ result_line (ended && all)) old new) (none_is stop ended is)
-    (report_begun ended whole all lines old mid new same text begun)
-
--- The texts of the lines of harts are those of a report.
-texts_of_lines : (hart : ℕ) (gots : List Got) (logs : List ProgramLog)
-    → flat_map line_text (lines_of hart gots logs) ≡ report_lines hart gots logs
-texts_of_lines hart [] logs = refl
-texts_of_lines hart (got ∷ gots) [] = refl
-texts_of_lines hart (got ∷ gots) (log ∷ logs) =
-    ap (λ rest. line_text (line_of hart got log) ++ rest) (texts_of_lines (hart + 1) gots logs)
-
--- They are whole where the logs came back whole, if there is a log for each hart.
-whole_of_lines : (hart : ℕ) (gots : List Got) (logs : List ProgramLog) → length logs ≡ length gots
-    → list_all is_whole_line (lines_of hart gots logs) ≡ are_whole gots logs
-whole_of_lines hart [] logs same = refl
-whole_of_lines hart (got ∷ gots) [] same = absurd (omega (arith, same))
-whole_of_lines hart (got ∷ gots) (log ∷ logs) same =
-    ap (λ rest. is_whole_verdict (verdict got.closed got.decoded log.events) && rest)
-    (whole_of_lines (hart + 1) gots logs (omega (arith, same)))
-
-module _ (hart : ℕ) (stop : Option (ℕ × CaptureFault)) (gots : List Got) (logs : List ProgramLog)
-    (same : length logs ≡ length gots) where
-  -- The lines are whole where the comparison is.
-  pub lines_whole_of : are_whole_lines (is_none stop) (lines_of hart gots logs) ≡ is_compared_whole stop gots logs
-  lines_whole_of = ap (λ whole. is_none stop && whole) (whole_of_lines hart gots logs same)
-
-  -- What is written of them is the report.
-  pub lines_written_of : lines_text (is_none stop) (lines_of hart gots logs) ≡ comparison_text_of hart stop gots logs
-  lines_written_of =
-      ap (λ lines. lines ++ result_line (are_whole_lines (is_none stop) (lines_of hart gots logs)))
-      (texts_of_lines hart gots logs)
-      ∙ ap (λ whole. report_lines hart gots logs ++ result_line whole) lines_whole_of
-
-module _ (stop : Option (ℕ × CaptureFault)) (gots : List Got) (logs : List ProgramLog)
-    (same : length logs ≡ length gots) where
-  -- The same, where the first hart is 0.
-  pub lines_whole : are_whole_lines (is_none stop) (lines_of 0 gots logs) ≡ is_compared_whole stop gots logs
-  lines_whole = lines_whole_of 0 stop gots logs same
-
-  pub lines_written : lines_text (is_none stop) (lines_of 0 gots logs) ≡ comparison_text stop gots logs
-  lines_written = lines_written_of 0 stop gots logs same
+    (begun_behind lines (result_line (ended && all)) old mid new text
+    (subst (λ whole. AppendsBeginning (result_line (ended && whole)) mid new) same begun))
 
 -- What is said of harts is whole where their logs came back whole, if there is a log for each hart.
 whole_of_harts : (hart : ℕ) (gots : List Got) (logs : List ProgramLog) → length logs ≡ length gots

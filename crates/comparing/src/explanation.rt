@@ -7,12 +7,12 @@ ghost use Rattle.output.specs.Begun.{AppendsBeginning};
 ghost use Rattle.comparing.specs.Explained.{are_whole_sourced, before_lines, below_text, both_line, differing_lines};
 ghost use Rattle.comparing.specs.Explained.{explained_text, hart_lines, is_whole_sourced, names_in, row_line, row_name};
 ghost use Rattle.comparing.specs.Explained.{rows_lines, three_lines};
+ghost use Rattle.comparing.specs.Lines.{line_text};
 
 use crate::explained::{ExplainedHart, RowKind, RowStart};
 use crate::source::SourceText;
 use crate::sourcing::SourcedHart;
-use crate::writing::write_line;
-use bench::write_result;
+use bench::{ComparedHart, write_result};
 use captures::CaptureFault;
 use output::{write_bytes, write_text};
 use retire::{Event, WriteFault};
@@ -31,11 +31,11 @@ pub struct Explaining<'a, S: Allocator = Global> {
     pub stop: Option<(u64, CaptureFault)>,
 }
 
-/// Writes what [`write_comparison`](crate::write_comparison) does, and below the line of each hart whose log did not
-/// come back whole the row in which the log and what is decoded first differ: the log's and the decoded one, or `end`
-/// where there is none, each with the name of its place, where there are symbols; and the message that the row comes
-/// from, or why it is not decoded. Where they are asked for, the up to three rows before it, which both have, come
-/// first.
+/// Writes the line of each hart, and the one of the result, and returns whether the result is whole: each verdict is,
+/// and decoding came to the end of the capture. Below the line of each hart whose log did not come back whole it writes
+/// the row in which the log and what is decoded first differ: the log's and the decoded one, or `end` where there is
+/// none, each with the name of its place, where there are symbols; and the message that the row comes from, or why it
+/// is not decoded. Where they are asked for, the up to three rows before it, which both have, come first.
 ///
 /// The only fault is [`WriteFault::Write`], where the writer failed; what was written then is a prefix of the text. No
 /// memory is taken, and the writer is not flushed.
@@ -97,6 +97,16 @@ fn write_hart<S: Allocator, W: Write>(
 {
     write_line(&one.hart.line, sink)?;
     write_below(how, one, sink)
+}
+
+/// Writes the line of a hart.
+fn write_line<W: Write>(line: &ComparedHart, sink: &mut W) -> Result<(), WriteFault>
+    ensures text { OnOk result (Appends (W.contents sink.old) (W.contents sink.new) (line_text line.now)) }
+    ensures begun { AppendsBeginning (line_text line.now) (W.contents sink.old) (W.contents sink.new) }
+    ensures fault { IfErr result (λ fault. fault ≡ WriteFault.Write) }
+{
+    write_text(sink, format_args!("{line}\n"))?;
+    Ok(())
 }
 
 /// Writes what is below the line of a hart: nothing, where its log came back whole.

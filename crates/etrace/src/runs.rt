@@ -7,7 +7,7 @@ pub use bench::{
 };
 pub use comparing::{
     Comparing, ExplainedHart, Explaining, HartCount, NearRows, RowSource, SourceMessage,
-    SourcedHart, SourcingFault, counts_of, sources_of, write_comparison, write_explained,
+    SourcedHart, SourcingFault, counts_of, sources_of, write_explained,
 };
 pub use funnel::{
     Core, Ended, MOST_PORTS, OpenFault, Outlet, Port, Receipt, ScheduleFault, SendFault, Settled,

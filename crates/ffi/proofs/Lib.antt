@@ -5,6 +5,7 @@ mod DecodersBack
 mod DecodersRead
 mod EventsBack
 mod EventsCopied
+mod EventsGiven
 mod EventsPassed
 mod EventsRead
 mod FedInTurn

@@ -16,6 +16,7 @@ use Rattle.ffi.specs.contracts.events.EventNumbers as EventNumbers
 use Rattle.ffi.specs.contracts.encoder_state.EncoderNumbers as EncoderNumbers
 use Rattle.ffi.specs.contracts.decoder_state.DecoderNumbers as DecoderNumbers
 use Rattle.ffi.specs.contracts.receiving.HartNumbers as HartNumbers
+use Rattle.ffi.specs.contracts.generating.WalkNumbers as WalkNumbers
 use Rattle.ffi.specs.contracts.messages.MessageNumbers as MessageNumbers
 use Rattle.ffi.specs.contracts.headers.HeaderNumbers as HeaderNumbers
 use Rattle.ffi.specs.contracts.explaining_log.ExplainEnd as ExplainEnd
@@ -77,6 +78,10 @@ decoder_state_lies = (refl, λ d b o κ. refl)
 
 hart_state_lies : Lies HartNumbers.the_row 80 (λ d. at 0 DecoderNumbers.the_row d.decoder ∷ at 72 u64 d.expected ∷ [])
 hart_state_lies = (refl, λ d b o κ. refl)
+
+walk_state_lies : Lies WalkNumbers.the_row 32 (λ d. at 0 u64 d.seed ∷ at 8 u64 d.random ∷ at 16 u64 d.at ∷
+    at 24 u32 d.mix ∷ at 28 u16 d.hart ∷ at 30 u8 d.privilege ∷ at 31 u8 d.next ∷ [])
+walk_state_lies = (refl, λ d b o κ. refl)
 
 message_lies : Lies MessageNumbers.the_row 40 (λ d. at 0 u64 d.number ∷ at 8 u64 d.payload_length ∷ at 16 u16 d.hart ∷
     at 18 (Array u8 18) d.payload ∷ [])

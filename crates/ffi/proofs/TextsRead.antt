@@ -1,6 +1,6 @@
 -- Logs are read from their texts one after the other.
-use Rattle.std.proofs.Common.{◌≡◌, ℕ, suc, ◌+◌, ◌<◌, ◌≤◌, List, [], ◌∷◌, ◌++◌, drop, length, slice_index_or, take, refl, sym}
-use Rattle.std.proofs.Common.{ap, subst, ◌∙◌, arith}
+use Rattle.std.proofs.Common.{◌≡◌, ℕ, suc, ◌+◌, ◌<◌, ◌≤◌, List, [], ◌∷◌, ◌++◌, Option, drop, length, slice_index_or, take, refl}
+use Rattle.std.proofs.Common.{ap, subst, sym, ◌∙◌, arith}
 use Rattle.std.proofs.lemmas.List.{append_assoc, length-take-le, take-append-drop, take_all, take_more}
 use Rattle.legalpath.specs.ProgramLog.{ProgramLog}
 use Rattle.rvclass.specs.Image.{Image}
@@ -90,19 +90,20 @@ module _ (program : Image) (bytes ends : List ℕ) (place from : ℕ) (Before Th
       }
 
 -- One is refused.
-pub read_refused : (program : Image) (bytes ends : List ℕ) (place from : ℕ) (logs : List ProgramLog) (end : ℕ)
-    (fault : Fault) → place < length ends → end ≡ slice_index_or ends place 0
-    → AreRead program bytes ends place from logs → IsNoLegalText program (text_between bytes from end) fault
-    → IsRefusedLog program bytes ends place fault
-read_refused program bytes ends place from logs end fault within is read refused = record {
+pub read_refused : (program : Image) (bytes ends : List ℕ) (place from end : ℕ) (Holds : List ProgramLog → Type 0)
+    (text : Option (List ℕ)) (fault : Fault) → place < length ends → end ≡ slice_index_or ends place 0
+    → AreUpTo program bytes ends place from Holds → text ≡ text_between bytes from end
+    → IsNoLegalText program text fault → IsRefusedLog program bytes ends place fault
+read_refused program bytes ends place from end Holds text fault within is before text_is refused = record {
   front = take place ends;
   end = end;
   rest = drop (place + 1) ends;
-  logs = logs;
+  logs = before.logs;
   whole = parted;
-  before = read.are;
+  before = before.read.are;
   counted = sym (length-take-le place ends (omega arith));
-  refused = subst (λ n. IsNoLegalText program (text_between bytes n end) fault) read.at refused;
+  refused = subst (λ t. IsNoLegalText program t fault)
+      (text_is ∙ ap (λ n. text_between bytes n end) before.read.at) refused;
 }
   where
     one : take (place + 1) ends ≡ take place ends ++ end ∷ []

@@ -24,6 +24,7 @@ pub mod Pushed
 pub mod PushedAll
 pub mod Sending
 pub mod OfLines
+pub mod Generated
 pub mod AuditedAll
 pub mod AuditedUnnumbered
 pub mod AuditReported

@@ -42,7 +42,8 @@ pub(crate) struct PathFound {
 /// damaged bytes, as the program finds them. Payloads are compared by their bytes, or with the flag [`BY_PACKETS`] by
 /// the packets that they unpack to. With [`UNNUMBERED`] the numbers of RECEIVED are not looked at, as with
 /// `audit --unnumbered`: the payloads of each hart that came are matched in order with those that were sent. What was
-/// sent and is not matched is lost, and what came and is not matched is extra.
+/// sent and is not matched is lost, and what came and is not matched is extra. Where both `lost` and `extra` of a hart
+/// are above 0, and above 256 together, more may match than is reported.
 ///
 /// `rows` is for what is found of each hart, `arrivals` for the messages of RECEIVED that are taken, in their order,
 /// `lost` for the longest runs of numbers that were lost, hart by hart, and `runs` for the longest runs of bytes of no

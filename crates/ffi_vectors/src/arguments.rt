@@ -3,7 +3,7 @@
 use crate::fields::{Fields, KEPT, NO_FIELDS, Record, low_16, low_32};
 use crate::store::Store;
 use cases::{Case, bytes_of};
-use ffi::{EncoderNumbers, EventNumbers, HartNumbers, ImagePiece, PacketNumbers};
+use ffi::{EncoderNumbers, EventNumbers, HartNumbers, ImagePiece, PacketNumbers, WalkNumbers};
 use std::alloc::Global;
 
 /// Where programs begin that name no base.
@@ -14,7 +14,7 @@ const BASE: u64 = 0x8000_0000;
 /// steps.
 const NUMBERS: &str =
     "harts hart period mode version format flags number room places rows arrivals lost runs \
-    tail last show steps numbers";
+    tail last show steps numbers mix seed";
 
 /// The names of bytes.
 const BYTES: &str = "image payload capture sent received log text symbols bytes due";
@@ -79,6 +79,17 @@ fn struct_of<T: Fields>(case: &mut Case<'_>, store: &Store, text: &str) -> T {
     T::of(&record)
 }
 
+/// The state that a text or its name says, if all its fields are of such a state, which is then known. Else all are 0.
+fn state_of<T: Fields>(case: &Case<'_>, store: &Store, text: &str, is_known: &mut bool) -> T {
+    let mut own = case.again();
+    let state = struct_of(&mut own, store, text);
+    if own.is_failed() {
+        return T::of(&NO_FIELDS);
+    }
+    *is_known = true;
+    state
+}
+
 /// What is given to a call.
 #[derive(Drop)]
 pub(crate) struct Given<'a> {
@@ -95,6 +106,7 @@ pub(crate) struct Given<'a> {
     pub(crate) packet: PacketNumbers,
     pub(crate) encoder: EncoderNumbers,
     pub(crate) hart_state: HartNumbers,
+    pub(crate) walk: WalkNumbers,
     numbers: Record,
 }
 
@@ -112,7 +124,8 @@ impl<'a> Given<'a> {
             packet: PacketNumbers::of(&NO_FIELDS),
             encoder: EncoderNumbers::of(&NO_FIELDS),
             hart_state: HartNumbers::of(&NO_FIELDS),
-            numbers: [KEPT; 20],
+            walk: WalkNumbers::of(&NO_FIELDS),
+            numbers: [KEPT; 21],
         }
     }
 
@@ -149,6 +162,16 @@ impl<'a> Given<'a> {
     /// The size of a buffer of this name.
     pub(crate) fn room(&self, name: &str) -> usize {
         self.size(name).unwrap_or(0)
+    }
+
+    /// The elements of a buffer that are shown: the first so many with `show`, the last so many with `last`, or all.
+    pub(crate) fn shown<'b, T>(&self, items: &'b [T]) -> &'b [T] {
+        if let Some(count) = self.size("last") {
+            let from = items.len().saturating_sub(count);
+            return items.get(from..).unwrap_or(items);
+        }
+        let count = self.size("show").unwrap_or(items.len());
+        items.get(..count).unwrap_or(items)
     }
 
     /// The bytes of this name, if they are given.
@@ -234,17 +257,14 @@ impl<'a> Given<'a> {
         }
     }
 
-    /// Reads a state, which is that of an encoder or of a decoder, or of both where all its fields are known to both.
+    /// Reads a state: that of an encoder, a decoder or a walk, or of each of these that has all its fields.
     fn read_state(&mut self, case: &mut Case<'_>, text: &str) {
-        let mut encoder = case.again();
-        let mut hart = case.again();
-        self.encoder = struct_of(&mut encoder, self.store, text);
-        self.hart_state = struct_of(&mut hart, self.store, text);
-        if encoder.is_failed() {
-            self.encoder = EncoderNumbers::of(&NO_FIELDS);
-            case.join(&hart);
-        } else if hart.is_failed() {
-            self.hart_state = HartNumbers::of(&NO_FIELDS);
+        let mut is_known = false;
+        self.encoder = state_of(case, self.store, text, &mut is_known);
+        self.hart_state = state_of(case, self.store, text, &mut is_known);
+        self.walk = state_of(case, self.store, text, &mut is_known);
+        if !is_known {
+            case.unread();
         }
     }
 

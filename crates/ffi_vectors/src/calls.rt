@@ -18,6 +18,7 @@ fn call(case: &mut Case<'_>, verb: &str, given: &Given<'_>) {
         "encoder" => stepping::encoder(case, given),
         "decoder" => stepping::decoder(case),
         "resume" => stepping::resume(case, given),
+        "generate_events" => stepping::generate_events(case, given),
         "push_both" => stepping::push_both(case, given),
         "audit_all" => audits::audit_all(case, given),
         _ => call_in_rooms(case, verb, given),

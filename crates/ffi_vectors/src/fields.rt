@@ -3,14 +3,14 @@
 use ffi::{
     Arrival, ByteRun, DecoderNumbers, EncoderNumbers, EventNumbers, ExplainEnd, HartEnd,
     HartNumbers, HartRowNumbers, HartTally, HeaderNumbers, LogPlace, LostRun, PacketNumbers,
-    PathEnd, SentPlace, TextEnd,
+    PathEnd, SentPlace, TextEnd, WalkNumbers,
 };
 
 /// The numbers of a struct, in the order of its names, and then 0.
-pub(crate) type Record = [u64; 20];
+pub(crate) type Record = [u64; 21];
 
 /// All numbers are 0.
-pub(crate) const NO_FIELDS: Record = [0; 20];
+pub(crate) const NO_FIELDS: Record = [0; 21];
 
 /// What each number is before a call.
 pub(crate) const KEPT: u64 = 0x5a5a_5a5a_5a5a_5a5a;
@@ -34,7 +34,7 @@ pub(crate) trait Fields: Copy + Drop {
 
 /// The struct that no call wrote.
 pub(crate) fn kept<T: Fields>() -> T {
-    T::of(&[KEPT; 20])
+    T::of(&[KEPT; 21])
 }
 
 /// Numbers, and then 0.
@@ -220,6 +220,28 @@ impl Fields for HartNumbers {
         set_event(&mut record, 10, &decoder.last);
         record[17] = self.expected;
         record
+    }
+}
+
+impl Fields for WalkNumbers {
+    const NAMES: &'static str = "seed random at mix hart privilege next";
+
+    fn of(numbers: &Record) -> WalkNumbers {
+        WalkNumbers {
+            seed: numbers[0],
+            random: numbers[1],
+            at: numbers[2],
+            mix: low_32(numbers[3]),
+            hart: low_16(numbers[4]),
+            privilege: low_8(numbers[5]),
+            next: low_8(numbers[6]),
+        }
+    }
+
+    fn record(&self) -> Record {
+        let (mix, hart) = (u64::from(self.mix), u64::from(self.hart));
+        let (privilege, next) = (u64::from(self.privilege), u64::from(self.next));
+        padded(&[self.seed, self.random, self.at, mix, hart, privilege, next])
     }
 }
 

@@ -33,6 +33,10 @@ fn call(verb: &str, given: &Given<'_>, buffer: &mut [u8]) -> Option<Said> {
             ffi::tracebench_write_header(&header, buffer, wants)
         }
         "version" => ffi::tracebench_version(buffer, wants),
+        "generate_image" => {
+            let (mix, seed) = (given.low_32("mix"), given.number("seed"));
+            ffi::tracebench_generate_image(given.alloc, mix, seed, buffer, wants)
+        }
         "capture_of_lines" => {
             let (alloc, text, version) = (
                 given.alloc,
@@ -162,7 +166,7 @@ fn call_any(
 fn is_binary(verb: &str) -> bool {
     matches!(
         verb,
-        "pack" | "write_message" | "write_header" | "capture_of_lines" | "encode"
+        "pack" | "write_message" | "write_header" | "capture_of_lines" | "encode" | "generate_image"
     )
 }
 
@@ -198,7 +202,7 @@ fn put_handed(case: &mut Case<'_>, verb: &str, given: &Given<'_>, bytes: &[u8]) 
         put_lines(case, given, bytes);
     } else if !bytes.is_empty() {
         case.put_word("bytes=");
-        case.put_digits(bytes);
+        case.put_digits(given.shown(bytes));
     }
 }
 

@@ -1,10 +1,10 @@
 //! Calls that go event by event or payload by payload, and so keep a state.
 
 use crate::arguments::Given;
-use crate::fields::{Fields, KEPT, kept};
+use crate::fields::{Fields, KEPT, Record, kept};
 use crate::writing::{Said, put_all, put_list, put_state};
 use cases::Case;
-use ffi::{EncoderNumbers, EventNumbers, HartNumbers, PacketNumbers};
+use ffi::{EncoderNumbers, EventNumbers, HartNumbers, PacketNumbers, WalkNumbers};
 
 fn push_all(given: &Given<'_>, packets: &mut [PacketNumbers]) -> Said {
     let mut after = given.encoder;
@@ -87,16 +87,6 @@ fn call_for_events(verb: &str, given: &Given<'_>, events: &mut [EventNumbers]) -
     }
 }
 
-/// The elements of a buffer that are shown: the first so many with `show`, the last so many with `last`, or all.
-fn shown<'b, T>(given: &Given<'_>, items: &'b [T]) -> &'b [T] {
-    if let Some(count) = given.size("last") {
-        let from = items.len().saturating_sub(count);
-        return items.get(from..).unwrap_or(items);
-    }
-    let count = given.size("show").unwrap_or(items.len());
-    items.get(..count).unwrap_or(items)
-}
-
 /// Appends what a call said, the elements that it wrote, and the state if it is another one. Where only some elements
 /// are shown, the state is not.
 fn put_said<S: Fields, T: Fields>(
@@ -107,10 +97,17 @@ fn put_said<S: Fields, T: Fields>(
     items: &[T],
 ) {
     said.put(case, false);
-    put_list(case, name, shown(given, items), false);
+    put_list(case, name, given.shown(items), false);
     let all = given.size("show").is_none() && given.size("last").is_none();
-    if all && said.state != before.record() {
-        put_state::<S>(case, &said.state);
+    if all {
+        put_changed(case, before, &said.state);
+    }
+}
+
+/// Appends the state after a call, if it is another one.
+fn put_changed<S: Fields>(case: &mut Case<'_>, before: &S, after: &Record) {
+    if before.record() != *after {
+        put_state::<S>(case, after);
     }
 }
 
@@ -180,7 +177,16 @@ pub(crate) fn resume(case: &mut Case<'_>, given: &Given<'_>) {
     let mut hart = given.hart_state;
     let status = ffi::tracebench_resume(&mut hart, given.number("number"), given.low_32("mode"));
     put_all(case, "status", &[u64::from(status)]);
-    if hart.record() != given.hart_state.record() {
-        put_state::<HartNumbers>(case, &hart.record());
-    }
+    put_changed(case, &given.hart_state, &hart.record());
+}
+
+/// The next events of a hart, as many as the buffer has room for.
+pub(crate) fn generate_events(case: &mut Case<'_>, given: &Given<'_>) {
+    let mut walk = given.walk;
+    let mut events = case.filled(kept::<EventNumbers>(), given.room("room"));
+    let (alloc, pieces, state) = (given.alloc, &given.pieces, &mut walk);
+    let status = ffi::tracebench_generate_events(alloc, pieces, state, &mut events);
+    put_all(case, "status", &[u64::from(status)]);
+    put_list(case, "events", given.shown(&events), false);
+    put_changed(case, &given.walk, &walk.record());
 }

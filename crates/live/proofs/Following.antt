@@ -9,7 +9,7 @@ use Rattle.message.specs.OfHart.{of_hart}
 use Rattle.message.specs.declared.fault.DemuxFault.{DemuxFault}
 use Rattle.message.specs.declared.message.Message.{Message}
 use Rattle.auditing.specs.Sent.{AreInTurn, misplaced}
-use Rattle.live.specs.Following.{AllWanted, Audited, BeginsMisplaced, IsAudited, IsCut, IsLookFault, IsLooked, Reads}
+use Rattle.live.specs.Following.{AllWanted, Audited, BeginsMisplaced, IsAudited, IsCut, IsLookFault, IsLooked, Left, Reads, left_after, left_with}
 use Rattle.live.specs.Holding.{Holding}
 use Rattle.live.specs.Holds.{Holds, IsReadFault, is_wanted}
 use Rattle.live.specs.View.{standing_of}
@@ -35,8 +35,12 @@ placed_at harts before (first ∷ messages) turn (suc k) message is =
     ap (λ l. misplaced harts l message) (sym (append_assoc before (first ∷ []) (take k messages)))
     ∙ placed_at harts (before ++ first ∷ []) messages turn.1 k message is
 
+-- The same messages are left.
+messages_of : {left other : Left} → left ≡ other → left.messages ≡ other.messages
+messages_of same = ap (λ (l : Left). l.messages) same
+
 module _ (all : Audited) (right : IsAudited all) (read : ℕ) (came : List Message) (front : ℕ) (own : Holding)
-    (left : List Message) (reads : Reads all read came front own left) where
+    (left : Left) (reads : Reads all read came front own left) where
   abbrev pub some : List Message
   some = take read all.sent
 
@@ -46,6 +50,10 @@ module _ (all : Audited) (right : IsAudited all) (read : ℕ) (came : List Messa
   pub parts : some ++ more ≡ all.sent
   parts = take-append-drop read all.sent
 
+  -- The messages that are left.
+  remaining : left.messages ≡ more ++ all.rest
+  remaining = messages_of reads.remains
+
   -- All is in turn, by what is held.
   pub whole_turn : AreInTurn (length own.harts) [] (some ++ more)
   whole_turn =
@@ -53,28 +61,30 @@ module _ (all : Audited) (right : IsAudited all) (read : ℕ) (came : List Messa
       (subst (λ l. AreInTurn all.harts [] l) (sym parts) right.in_turn)
 
   -- The next message that is left is the next one of SENT, if it may follow those that were read.
-  pub next_sent : (message : Message) (after : List Message) → left ≡ message ∷ after
+  pub next_sent : (message : Message) (after : Left) → left ≡ left_with message after
       → misplaced all.harts some message ≡ None
-      → (slice_get all.sent read ≡ Some message) × (after ≡ drop (read + 1) all.sent ++ all.rest)
+      → (slice_get all.sent read ≡ Some message) × (after ≡ left_after all (read + 1))
   next_sent message after is placed = go (cases_lt read (length all.sent))
     where
       go : (read < length all.sent) ⊎ (length all.sent ≤ read)
-          → (slice_get all.sent read ≡ Some message) × (after ≡ drop (read + 1) all.sent ++ all.rest)
+          → (slice_get all.sent read ≡ Some message) × (after ≡ left_after all (read + 1))
       go (inl less) =
           let found = slice_get-some all.sent read less in
-          let same : message ∷ after ≡ found.0 ∷ (drop (suc read) all.sent ++ all.rest) =
-          sym is ∙ reads.remains ∙ ap (λ l. l ++ all.rest) (drop_from all.sent read found.0 found.1) in
+          let same : message ∷ after.messages ≡ found.0 ∷ (drop (suc read) all.sent ++ all.rest) =
+          sym (messages_of is) ∙ remaining ∙ ap (λ l. l ++ all.rest) (drop_from all.sent read found.0 found.1) in
           let first : found.0 ≡ message = cc in
-          let rest : after ≡ drop (suc read) all.sent ++ all.rest = cc in
-          (found.1 ∙ ap Some first, rest ∙ ap (λ n. drop n all.sent ++ all.rest) (next_count read))
+          let rest : after.messages ≡ drop (suc read) all.sent ++ all.rest = cc in
+          let messages = rest ∙ ap (λ n. drop n all.sent ++ all.rest) (next_count read) in
+          let ending = ap (λ (l : Left). l.ending) (sym is ∙ reads.remains) in
+          (found.1 ∙ ap Some first, λ i. record { messages = messages i; ending = ending i })
       go (inr past) =
-          let same : all.rest ≡ message ∷ after =
-          ap (λ l. l ++ all.rest) (sym (drop_all read all.sent past)) ∙ sym reads.remains ∙ is in
+          let same : all.rest ≡ message ∷ after.messages =
+          ap (λ l. l ++ all.rest) (sym (drop_all read all.sent past)) ∙ sym remaining ∙ messages_of is in
           absurd (subst (IsCut all.harts all.sent) same right.cut
           (ap (λ l. misplaced all.harts l message) (sym (take_all read all.sent past)) ∙ placed))
 
   -- Where nothing is left, SENT was read to its end.
-  pub at_end : left ≡ [] → read ≡ length all.sent
+  pub at_end : left.messages ≡ [] → read ≡ length all.sent
   at_end none = go (cases_lt read (length all.sent))
     where
       go : (read < length all.sent) ⊎ (length all.sent ≤ read) → read ≡ length all.sent
@@ -82,11 +92,11 @@ module _ (all : Audited) (right : IsAudited all) (read : ℕ) (came : List Messa
       go (inl less) =
           let found = slice_get-some all.sent read less in
           let never : [] ≡ found.0 ∷ (drop (suc read) all.sent ++ all.rest) =
-          sym none ∙ reads.remains ∙ ap (λ l. l ++ all.rest) (drop_from all.sent read found.0 found.1) in cc
+          sym none ∙ remaining ∙ ap (λ l. l ++ all.rest) (drop_from all.sent read found.0 found.1) in cc
 
   -- One message more was read.
-  pub reads_more : (message : Message) (after : List Message) (new : Holding) → slice_get all.sent read ≡ Some message
-      → after ≡ drop (read + 1) all.sent ++ all.rest → Holds (some ++ message ∷ []) came front new
+  pub reads_more : (message : Message) (after : Left) (new : Holding) → slice_get all.sent read ≡ Some message
+      → after ≡ left_after all (read + 1) → Holds (some ++ message ∷ []) came front new
       → new.window ≡ own.window → length new.harts ≡ length own.harts → Reads all (read + 1) came front new after
   reads_more message after new at is holds same_window same_harts = record {
     holds =
@@ -99,7 +109,7 @@ module _ (all : Audited) (right : IsAudited all) (read : ℕ) (came : List Messa
   }
 
   -- A message that is refused is what follows SENT, or has the last number.
-  pub refused_next : (message : Message) (after : List Message) → left ≡ message ∷ after → (why : ReadFault)
+  pub refused_next : (message : Message) (after : Left) → left ≡ left_with message after → (why : ReadFault)
       → refusal_by (slice_get own.harts message.hart) message.number ≡ Some why → IsLookFault all read (look.Sent why)
   refused_next message after is why refusal =
       by_cause (why_refused some came front own reads.holds message why refusal)
@@ -109,8 +119,8 @@ module _ (all : Audited) (right : IsAudited all) (read : ℕ) (came : List Messa
           → (read ≡ length all.sent) × BeginsMisplaced all.harts all.sent all.rest cause
       misplaced_one cause at (inl less) =
           let found = slice_get-some all.sent read less in
-          let same : message ∷ after ≡ found.0 ∷ (drop (suc read) all.sent ++ all.rest) =
-          sym is ∙ reads.remains ∙ ap (λ l. l ++ all.rest) (drop_from all.sent read found.0 found.1) in
+          let same : message ∷ after.messages ≡ found.0 ∷ (drop (suc read) all.sent ++ all.rest) =
+          sym (messages_of is) ∙ remaining ∙ ap (λ l. l ++ all.rest) (drop_from all.sent read found.0 found.1) in
           let first : found.0 ≡ message = cc in
           let never : None ≡ Some cause =
           sym (placed_at all.harts [] all.sent right.in_turn read found.0 found.1)
@@ -118,8 +128,8 @@ module _ (all : Audited) (right : IsAudited all) (read : ℕ) (came : List Messa
           ∙ ap (λ n. misplaced n some message) (sym reads.harts)
           ∙ at in cc
       misplaced_one cause at (inr past) =
-          let same : all.rest ≡ message ∷ after =
-          ap (λ l. l ++ all.rest) (sym (drop_all read all.sent past)) ∙ sym reads.remains ∙ is in (
+          let same : all.rest ≡ message ∷ after.messages =
+          ap (λ l. l ++ all.rest) (sym (drop_all read all.sent past)) ∙ sym remaining ∙ messages_of is in (
             (let within = reads.within in omega (arith, within, past)),
             subst (λ l. BeginsMisplaced all.harts all.sent l cause) (sym same)
                 (ap (λ l. misplaced all.harts l message) (sym (take_all read all.sent past))
@@ -182,7 +192,7 @@ module _ (all : Audited) (right : IsAudited all) (read : ℕ) (came : List Messa
           ∙ is
 
   -- Where SENT is at its end, nothing follows.
-  pub looked_end : (first hart number : ℕ) (after : List Message) (new : Holding) → Reads all read came front new after
+  pub looked_end : (first hart number : ℕ) (after : Left) (new : Holding) → Reads all read came front new after
       → read ≡ length all.sent → first ≤ read → AllWanted all first read front hart number
       → IsLooked all first came front hart number new after
   looked_end first hart number after new same end more wanted = record {

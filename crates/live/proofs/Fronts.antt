@@ -7,10 +7,10 @@ use Rattle.auditing.specs.Findings.{finding_by, finding_of, greatest_number}
 use Rattle.auditing.specs.declared.fate.Fate.{Fate}
 use Rattle.auditing.specs.declared.fate.Fate.TheVariants as fate
 use Rattle.auditing.specs.declared.finding.Finding.{Finding}
-use Rattle.live.specs.Lines.{Arrived}
 use Rattle.live.specs.Live.{State, Step, decides, finds, is_new, is_outage, judged, judged_at, moves_to, passes_all, read_to}
 use Rattle.live.specs.Live.{settled, settles, standing_now, stays, strange, taken, waits}
 use Rattle.live.specs.View.{up_to}
+use Rattle.live.specs.declared.arrived.Arrived.{Arrived}
 use Rattle.live.specs.declared.standing.Standing.{Standing}
 use Rattle.live.specs.declared.standing.Standing.TheVariants as standing
 

@@ -8,3 +8,13 @@ pub mod InView
 pub mod Fronts
 pub mod Worked
 pub mod Following
+pub mod Steps
+pub mod Widening
+pub mod ReadingOn
+pub mod Judges
+pub mod Settling
+pub mod Ending
+pub mod Meets
+pub mod Telling
+pub mod Finishing
+pub mod Starting

@@ -37,7 +37,7 @@ take_to (a ∷ xs) zero x is = let same : a ≡ x = cc in ap (λ y. y ∷ []) sa
 take_to (a ∷ xs) (suc i) x is = ap (λ l. a ∷ l) (take_to xs i x is)
 
 -- The number of a message is how many of its hart are before it.
-numbered_at : (harts : ℕ) (before messages : List Message) → AreInTurn harts before messages
+pub numbered_at : (harts : ℕ) (before messages : List Message) → AreInTurn harts before messages
     → (k : ℕ) (message : Message) → slice_get messages k ≡ Some message
     → message.number ≡ length (of_hart message.hart (before ++ take k messages))
 numbered_at harts before [] turn k message is = cc

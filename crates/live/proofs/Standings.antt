@@ -11,11 +11,7 @@ use Rattle.auditing.specs.Fates.{is_numbered}
 use Rattle.auditing.specs.Sent.{AreInTurn}
 use Rattle.live.specs.View.{standing_from}
 use Rattle.live.specs.declared.standing.Standing.TheVariants as standing
-
--- There is a message, of this hart and with this number.
-abbrev pub is_one : ℕ → ℕ → Option Message → Bool
-is_one hart number None = false
-is_one hart number (Some message) = is_numbered hart number message
+pub use Rattle.live.specs.steps.Searching.{is_one}
 
 -- A message of this hart and with this number has both.
 pub numbered_is : (hart number : ℕ) (message : Message) → is_numbered hart number message ≡ true

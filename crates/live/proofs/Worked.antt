@@ -3,8 +3,9 @@ use Rattle.std.proofs.Common.{◌≡◌, ℕ, ◌+◌, ◌/◌, ◌%◌, ◌^◌
 use Rattle.std.specs.List.{range_with_len}
 use Rattle.message.specs.declared.message.Message.{Message}
 use Rattle.auditing.specs.declared.finding.Finding.TheVariants as finding
-use Rattle.live.specs.Lines.{Arrived, Line, Decided, TooLate, Missing}
+use Rattle.live.specs.Lines.{Line, Decided, TooLate, Missing}
 use Rattle.live.specs.Written.{written}
+use Rattle.live.specs.declared.arrived.Arrived.{Arrived}
 
 -- A message of a hart with this number.
 abbrev one : ℕ → ℕ → Message

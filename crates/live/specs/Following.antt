@@ -2,6 +2,7 @@
 use Rattle.std.specs.Prelude.{ℕ, ◌≡◌, ◌≢◌, ◌-◌, ◌^◌, ◌<◌, ◌≤◌, ◌++◌, true, List, [], ◌∷◌, Option, Some, None, Result, Ok, Err}
 use Rattle.std.specs.Prelude.{drop, length, option_map, slice_get, take}
 use Rattle.message.specs.declared.fault.DemuxFault.{DemuxFault}
+use Rattle.message.specs.declared.fault.MessageFault.{MessageFault}
 use Rattle.message.specs.declared.message.Message.{Message}
 use Rattle.auditing.specs.Sent.{AreInTurn, misplaced}
 use Rattle.live.specs.Holding.{Holding}
@@ -13,24 +14,45 @@ use Rattle.live.specs.declared.fault.ReadFault.TheVariants as fault
 use Rattle.live.specs.declared.fault.SourceFault.{SourceFault}
 use Rattle.live.specs.declared.fault.SourceFault.TheVariants as source
 
--- Why a source does not give the next message: where it says that there is no complete one, none is left. It may fail at any
--- place.
-abbrev pub IsSourceFault : SourceFault → List Message → Type 0
-IsSourceFault (source.Unread why) left = left ≡ []
+-- What is left of a source of messages: those that it gives, and why there is no complete message after them. There is no
+-- reason where its bytes end with the last message.
+pub record Left : Type 0 where
+  pub messages : List Message
+  pub ending : Option MessageFault
+
+-- This message is left, and then what is left after it.
+abbrev pub left_with : Message → Left → Left
+left_with message left = record { messages = message ∷ left.messages; ending = left.ending }
+
+-- Why a source does not give the next message: where it says that there is no complete one, none is left, and that is the
+-- reason. It may fail at any place.
+abbrev pub IsSourceFault : SourceFault → Left → Type 0
+IsSourceFault (source.Unread why) left = left ≡ record { messages = []; ending = Some why }
 IsSourceFault other left = Unit {0}
 
--- What a source of messages gives, by those that were left and those that are.
-abbrev pub IsNext : Result (Option Message) SourceFault → List Message → List Message → Type 0
-IsNext (Ok (Some message)) old new = old ≡ message ∷ new
-IsNext (Ok None) old new = (old ≡ []) × (new ≡ [])
+-- What a source of messages gives, by what was left and what is.
+abbrev pub IsNext : Result (Option Message) SourceFault → Left → Left → Type 0
+IsNext (Ok (Some message)) old new = old ≡ left_with message new
+IsNext (Ok None) old new = (old ≡ record { messages = []; ending = None }) × (new ≡ old)
 IsNext (Err why) old new = IsSourceFault why old
 
--- What is audited: how many harts there are, the window, the messages of SENT, and what follows them there.
+-- What is audited: how many harts there are, the window, the messages of SENT, those that follow them there, and why there
+-- is no complete message after all of them.
 pub record Audited : Type 0 where
   pub harts : ℕ
   pub window : ℕ
   pub sent : List Message
   pub rest : List Message
+  pub ending : Option MessageFault
+
+-- What is left of SENT after so many of its messages, with what follows it.
+abbrev pub left_after : Audited → ℕ → Left
+left_after all read = record { messages = drop read all.sent ++ all.rest; ending = all.ending }
+
+-- SENT has no fault: no message follows, and no bytes that are none.
+pub record EndsWell (all : Audited) : Type 0 where
+  pub no_more : all.rest ≡ []
+  pub no_reason : all.ending ≡ None
 
 -- Nothing follows the messages of SENT, or a message that is not the next one of its hart.
 abbrev pub IsCut : ℕ → List Message → List Message → Type 0
@@ -43,11 +65,11 @@ pub record IsAudited (all : Audited) : Type 0 where
   pub cut : IsCut all.harts all.sent all.rest
 
 -- So many messages of SENT were read, and these are left of it and what follows it. This is held of them.
-pub record Reads (all : Audited) (read : ℕ) (came : List Message) (front : ℕ) (own : Holding) (left : List Message)
+pub record Reads (all : Audited) (read : ℕ) (came : List Message) (front : ℕ) (own : Holding) (left : Left)
     : Type 0 where
   pub holds : Holds (take read all.sent) came front own
   pub within : read ≤ length all.sent
-  pub remains : left ≡ drop read all.sent ++ all.rest
+  pub remains : left ≡ left_after all read
   pub harts : length own.harts ≡ all.harts
   pub window : own.window ≡ all.window
 
@@ -59,7 +81,7 @@ BeginsMisplaced harts sent (message ∷ messages) why = misplaced harts sent mes
 -- Why SENT is not read on after so many messages of it: its source does not give the next one; or all of it was read, and
 -- what follows is not the next one of its hart; or the next one has number 2^64 - 1.
 abbrev pub IsLookFault : Audited → ℕ → LookFault → Type 0
-IsLookFault all read (look.Source why) = IsSourceFault why (drop read all.sent ++ all.rest)
+IsLookFault all read (look.Source why) = IsSourceFault why (left_after all read)
 IsLookFault all read (look.Sent (fault.Misplaced why)) =
     (read ≡ length all.sent) × BeginsMisplaced all.harts all.sent all.rest why
 IsLookFault all read (look.Sent fault.Full) =
@@ -73,7 +95,7 @@ AllWanted all first read front hart number = (k : ℕ) → first ≤ k → k < r
 
 -- SENT was read on until where a message of this hart with this number is does not depend on what follows.
 pub record IsLooked (all : Audited) (first : ℕ) (came : List Message) (front hart number : ℕ) (own : Holding)
-    (left : List Message) : Type 0 where
+    (left : Left) : Type 0 where
   pub read : ℕ
   pub reads : Reads all read came front own left
   pub more : first ≤ read
@@ -94,7 +116,7 @@ pub record IsStopped (all : Audited) (first : ℕ) (came : List Message) (front 
   pub fault : IsLookFault all read why
 
 -- SENT was read on as far as a message of this hart with this number asks for, after so many messages of it.
-abbrev pub Looks : {U : Type 0} → Audited → ℕ → List Message → ℕ → ℕ → ℕ → Result U LookFault → Holding → List Message
+abbrev pub Looks : {U : Type 0} → Audited → ℕ → List Message → ℕ → ℕ → ℕ → Result U LookFault → Holding → Left
     → Type 0
 Looks all first came front hart number (Ok done) own left = IsLooked all first came front hart number own left
 Looks all first came front hart number (Err why) own left = IsStopped all first came front hart number own why

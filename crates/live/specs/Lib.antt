@@ -6,4 +6,5 @@ pub mod Written
 pub mod Holding
 pub mod Holds
 pub mod Following
+pub mod Auditing
 pub mod steps

@@ -1,14 +1,9 @@
 -- What a live audit says, line by line.
 use Rattle.std.specs.Prelude.{ℕ}
-use Rattle.message.specs.declared.message.Message.{Message}
 use Rattle.auditing.specs.declared.finding.Finding.{Finding}
 use Rattle.auditing.specs.declared.lost.Lost.{Lost}
+use Rattle.live.specs.declared.arrived.Arrived.{Arrived}
 use Rattle.live.specs.declared.held.SentMessage.{SentMessage}
-
--- A message of RECEIVED, and its place there.
-pub record Arrived : Type 0 where
-  pub place : ℕ
-  pub message : Message
 
 -- What is found of a message of RECEIVED; that it is too late; that a message of SENT is given up, and whether it came;
 -- and that these numbers of a hart are lost.

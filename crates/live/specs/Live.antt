@@ -7,10 +7,12 @@ use Rattle.auditing.specs.Fates.{has_number, is_numbered, true_ones}
 use Rattle.auditing.specs.Findings.{finding_of}
 use Rattle.auditing.specs.declared.finding.Finding.{Finding}
 use Rattle.auditing.specs.declared.finding.Finding.TheVariants as finding
-use Rattle.live.specs.Lines.{Arrived, Line, Decided, TooLate, GivenUp}
-use Rattle.live.specs.Runs.{Run, is_written, no_run, run_left, run_lines, run_with}
+use Rattle.live.specs.Lines.{Line, Decided, TooLate, GivenUp}
+use Rattle.live.specs.Runs.{is_written, no_run, run_left, run_lines, run_with}
 use Rattle.live.specs.View.{given_up, standing_of, up_to}
+use Rattle.live.specs.declared.arrived.Arrived.{Arrived}
 use Rattle.live.specs.declared.held.SentMessage.{SentMessage}
+use Rattle.live.specs.declared.run.Run.{Run}
 use Rattle.live.specs.declared.standing.Standing.{Standing}
 use Rattle.live.specs.declared.standing.Standing.TheVariants as standing
 
@@ -164,10 +166,13 @@ is_outage window sent state first second =
     is_beyond (standing_now window sent state first)
     && (is_beyond (standing_now window sent state second) && are_near window first.number second.number)
 
+-- How many messages of SENT are up to the one of this hart with this number. If SENT does not have it, all of them.
+abbrev pub read_up_to : List Message → ℕ → ℕ → ℕ
+read_up_to sent hart number = min (position_or_len (is_numbered hart number) sent + 1) (length sent)
+
 -- How many messages of SENT are up to this one. If SENT does not have it, all of them.
 abbrev pub read_to : List Message → Message → ℕ
-read_to sent message =
-    min (position_or_len (is_numbered message.hart message.number) sent + 1) (length sent)
+read_to sent message = read_up_to sent message.hart message.number
 
 -- After an outage SENT is read to the first message after it, and the front is at least a window before that.
 abbrev pub goes_on : ℕ → List Message → State → Message → Message → Step

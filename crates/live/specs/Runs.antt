@@ -1,13 +1,7 @@
 -- Runs of lost numbers, as long as they go on.
 use Rattle.std.specs.Prelude.{ℕ, ◌+◌, ◌-◌, ◌==◌, ◌||◌, not, nat_lt, Bool, true, false, if◌then◌else◌, List, [], ◌∷◌}
 use Rattle.live.specs.Lines.{Line, Missing}
-
--- A run of lost numbers of a hart, as long as it goes on: the first of its numbers; the first that lacks a line, or the
--- number after the last where none does; and the number after the last, which is the first where no run goes on.
-pub record Run : Type 0 where
-  pub first : ℕ
-  pub unlined : ℕ
-  pub next : ℕ
+use Rattle.live.specs.declared.run.Run.{Run}
 
 -- No run goes on.
 abbrev pub no_run : Run

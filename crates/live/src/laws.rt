@@ -3,9 +3,9 @@
 ghost use Rattle.std.specs.Prelude.{◌≡◌, ◌+◌, ◌*◌, ◌≤◌, ℕ, List, None, Some, false, length};
 ghost use Rattle.message.specs.declared.message.Message.{Message};
 ghost use Rattle.auditing.specs.Fates.{is_true};
-ghost use Rattle.live.specs.Lines.{Arrived};
 ghost use Rattle.live.specs.Live.{State, is_outage, judged, strange, taken, waits};
 ghost use Rattle.live.specs.View.{in_view};
+ghost use Rattle.live.specs.declared.arrived.Arrived.{Arrived};
 
 /// A message that is not true leaves the front where it is: where it is undecided at first, where it is decided later, and
 /// where it is taken and no message of its hart waits, or one that is not true either, and both are not beyond the view and

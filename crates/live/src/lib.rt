@@ -6,28 +6,41 @@
 //! found to be is an [`auditing::Finding`]; below the view it is too late, and beyond it undecided. A message of SENT that
 //! leaves the view is given up, and lost if it did not come.
 //!
+//! [`LiveAudit`] is what is held of both. [`LiveAudit::take`] takes the messages of RECEIVED one after the other, each an
+//! [`Arrived`], and [`LiveAudit::end`] ends the audit. They read SENT from a [`SentSource`], and hand each line to a
+//! [`LiveLines`] as soon as it is decided.
+//!
 //! [`Window`] is what is held of SENT: at most 2N + 1 messages, in memory that [`Window::new`] takes once.
 //! [`Window::judge`] looks a message of RECEIVED up, and takes it. As long as [`Window::wants`] says so, the next message of
-//! SENT has to be read first, by [`Window::read`]; [`look`] does so from a [`SentSource`]. [`Window::pass`] moves the front by one message, and returns the one that
-//! is given up.
+//! SENT has to be read first, by [`Window::read`]; [`look`] does so from a source. [`Window::pass`] moves the front by one
+//! message, and returns the one that is given up.
 #![tactic(auto)]
 
+mod arrived;
 mod fault;
+mod giving;
 mod held;
 mod judged;
 mod laws;
+mod lines;
+mod live_audit;
 mod looking;
 mod numbers;
 mod places;
+mod run;
 mod slots;
 mod source;
 mod standing;
+mod waiting;
 mod window;
 
+pub use arrived::Arrived;
 pub use fault::{LookFault, ReadFault, SourceFault};
 pub use held::SentMessage;
 pub use judged::Judged;
 pub use laws::{untrue_messages_leave_the_front, views_are_bounded};
+pub use lines::LiveLines;
+pub use live_audit::LiveAudit;
 pub use looking::look;
 pub use source::SentSource;
 pub use standing::Standing;

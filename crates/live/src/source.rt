@@ -1,16 +1,14 @@
 //! Where the messages of SENT come from.
 
-ghost use Rattle.std.specs.Prelude.{List};
-ghost use Rattle.message.specs.declared.message.Message.{Message as AnyMessage};
-ghost use Rattle.live.specs.Following.{IsNext};
+ghost use Rattle.live.specs.Following.{IsNext, Left};
 
 use crate::fault::SourceFault;
 use message::Message;
 
 /// Gives the messages of SENT, one after the other.
 pub trait SentSource {
-    /// The messages that are left. After them SENT ends, or has a fault.
-    ghost left: { Self → List AnyMessage };
+    /// The messages that are left. After them SENT ends, or has the fault that is said there.
+    ghost left: { Self → Left };
 
     /// The next message, `None` where SENT has ended.
     fn next(&mut self) -> Result<Option<Message>, SourceFault>

@@ -1,18 +1,19 @@
 //! What is held of SENT.
 
-ghost use Rattle.std.specs.Prelude.{◌≡◌, ◌+◌, ◌-◌, ◌*◌, ◌<◌, ◌≤◌, ◌++◌, ℕ, IfErr, IfNone, IfOk, IfSome, List, [], ◌∷◌, OnErr, OnOk, None, false, true};
-ghost use Rattle.std.specs.Prelude.{length, min, slice_get};
+ghost use Rattle.std.specs.Prelude.{◌≡◌, ◌+◌, ◌-◌, ◌*◌, ◌<◌, ◌≤◌, ◌++◌, ℕ, IfErr, IfNone, IfOk, IfSome, List, [], ◌∷◌, OnErr, OnOk, None, false, not, true};
+ghost use Rattle.std.specs.Prelude.{length, min, nat_lt, slice_get};
 ghost use Rattle.std.specs.VecDeque.{deque_capacity};
 ghost use Rattle.message.specs.declared.message.Message.{Message as AnyMessage};
 ghost use Rattle.auditing.specs.Sent.{AreInTurn};
 ghost use Rattle.live.specs.Holding.{Holding};
 ghost use Rattle.live.specs.Holds.{Holds, IsReadFault, IsWithin, came_by, is_wanted, judged_as, judged_by};
-ghost use Rattle.live.specs.Live.{last_held};
+ghost use Rattle.live.specs.Live.{are_near, last_held};
 ghost use Rattle.live.specs.View.{given_up, standing_of};
 ghost use Rattle.live.specs.steps.Judging.{found_by, mark_at, taken_by};
 ghost use Rattle.live.specs.steps.Reading.{read_by, read_in, refusal_by, wants_in};
 ghost use Rattle.live.specs.steps.Passing.{passed, passes_by};
 ghost use Rattle.live.specs.steps.Searching.{is_at};
+ghost use Rattle.live.specs.steps.Waiting.{numbering};
 
 use crate::fault::ReadFault;
 use crate::held::SentMessage;
@@ -160,6 +161,44 @@ impl<A: Allocator> Window<A> {
         ensures { result ≡ refusal_by (slice_get self.now.harts message.now.hart) message.now.number }
     {
         refusal(self.harts.as_slice(), message.hart, message.number)
+    }
+
+    /// The hart and the number of the message of SENT after the front, if it was read.
+    pub(crate) fn next(&self) -> Option<(u16, u64)>
+        ensures { result ≡ numbering (slice_get self.now.slots self.now.near) }
+    {
+        match self.slots.get(self.near) {
+            Some(slot) => Some((slot.message.hart, slot.message.number)),
+            None => None,
+        }
+    }
+
+    /// Whether there is no place for one message more.
+    pub(crate) fn is_full(&self) -> bool
+        ensures { result ≡ not (nat_lt (length self.now.slots) (self.now.near + self.now.window)) }
+    {
+        self.slots.len() >= self.near + self.window
+    }
+
+    /// How many messages after the front were read.
+    pub(crate) fn ahead(&self) -> usize
+        ensures { result ≡ length self.now.slots - self.now.near }
+    {
+        self.slots.len().saturating_sub(self.near)
+    }
+
+    /// Whether two numbers differ by 1 to a window.
+    pub(crate) fn is_near(&self, number: u64, other: u64) -> bool
+        ensures { result ≡ are_near self.now.window number other }
+    {
+        number != other && number.abs_diff(other) <= self.window as u64
+    }
+
+    /// The messages that are held.
+    pub(crate) fn slots(&self) -> &VecDeque<SentMessage, A>
+        ensures { result.now.items ≡ self.now.slots }
+    {
+        &self.slots
     }
 
     /// Reads the next message of SENT. Takes no memory.

@@ -9,7 +9,7 @@ use Rattle.rvclass.specs.Image.{Image}
 use Rattle.rvclass.specs.Program.{program_of}
 use Rattle.rvclass.specs.declared.fault.ProgramFault.{ProgramFault}
 use Rattle.stimulus.specs.ImageBytes.{image_bytes}
-use Rattle.stimulus.specs.Mixed.{BeginsMixed}
+use Rattle.stimulus.specs.Mixed.{mixed_capture}
 use Rattle.stimulus.specs.Written.{BeginsLog, WritesLog, log_of}
 use Rattle.stimulus.specs.declared.logging.Log.{Log}
 use Rattle.stimulus.specs.declared.mix.Mix.{Mix}
@@ -85,12 +85,14 @@ module _ (asked : Generate) where
         inr (printed_begun (WritesRows asked mix program) text (Ok Whole) old new refl
         (begun_kept text old mid new (subst (λ log. BeginsLog program log old mid) same begins) kept))
 
-    -- A prefix of a front of a capture was written, and then nothing more.
+    -- A prefix of the capture was written, and then nothing more.
     pub mixed_cut : (mix : Mix) (old mid new : Option (List ℕ))
-        → BeginsMixed program (capture_of asked mix) old mid → Keeps mid new
+        → AppendsBeginning (mixed_capture program (capture_of asked mix)) old mid → Keeps mid new
         → IsCutOf (WritesFront asked mix program) old new
-    mixed_cut mix old mid new made kept = inr (printed_begun (WritesFront asked mix program) made.bytes (Ok Whole) old new
-        made.front (begun_kept made.bytes old mid new made.begun kept))
+    mixed_cut mix old mid new begun kept =
+        let bytes = mixed_capture program (capture_of asked mix) in
+        inr (printed_begun (WritesFront asked mix program) bytes (Ok Whole) old new refl
+        (begun_kept bytes old mid new begun kept))
 
 -- What keeps nothing more is as it is.
 pub keeps_itself : (bytes : Option (List ℕ)) → Keeps bytes bytes

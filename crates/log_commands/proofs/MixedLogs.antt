@@ -26,6 +26,7 @@ use Rattle.message.specs.declared.header.Version.TheVariants.{One, Two}
 use Rattle.message.specs.declared.fault.MessageFault.{MessageFault}
 use Rattle.message.specs.declared.message.Message.{Message}
 use Rattle.payload.specs.declared.mode.Mode.{Mode}
+use Rattle.stimulus.proofs.LeftMessages.{all_held}
 use Rattle.stimulus.proofs.MixedMessages.{AreOwn, mixed_kept}
 use Rattle.stimulus.specs.Mixing.{AreMessages, mixed_by}
 use Rattle.command_inputs.specs.Printed.{PrintsUnlessDenied}
@@ -114,12 +115,12 @@ module _ (asked : Encode) (seed : ℕ) (some : asked.mixed ≡ Some seed) (logs 
       → all_harts asked.of (length made) ≤ most_harts asked.version → AreMessages left made
   are_mixed room few =
       let here : first + 0 ≡ first = omega arith in
-      let count = made_long (AreMessagesOf message_bytes asked.period asked.mode first) 0 logs made as_bytes in (
-        each_bytes asked.period asked.mode first 0 logs made as_bytes
-            ∙ ap (λ hart. map capture (messages_of_each asked.period asked.mode hart logs)) here,
-        each_ranges asked.period asked.mode (all_harts asked.of (length made))
-            (omega (arith, few, most_within asked.version)) first logs (omega (arith, room, count)) are.0,
-      )
+      let count = made_long (AreMessagesOf message_bytes asked.period asked.mode first) 0 logs made as_bytes in
+      all_held left (map (λ (bytes : Vec ℕ Global). bytes.items) made)
+      (each_bytes asked.period asked.mode first 0 logs made as_bytes
+      ∙ ap (λ hart. map capture (messages_of_each asked.period asked.mode hart logs)) here)
+      (each_ranges asked.period asked.mode (all_harts asked.of (length made))
+      (omega (arith, few, most_within asked.version)) first logs (omega (arith, room, count)) are.0)
     where
       most_within : (version : Version) → most_harts version ≤ 2 ^ 16
       most_within One = omega arith

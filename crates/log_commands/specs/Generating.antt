@@ -20,7 +20,7 @@ use Rattle.retire.specs.LogText.{log_text}
 use Rattle.retire.specs.Number.{number_of}
 use Rattle.rvclass.specs.Image.{Image}
 use Rattle.stimulus.specs.ImageBytes.{image_bytes}
-use Rattle.stimulus.specs.Mixed.{IsMixedCapture, IsMixedFront}
+use Rattle.stimulus.specs.Mixed.{IsMixedCapture, mixed_capture}
 use Rattle.stimulus.specs.Written.{log_of}
 use Rattle.stimulus.specs.declared.capturing.Capture.{Capture}
 use Rattle.stimulus.specs.declared.logging.Log.{Log}
@@ -140,9 +140,9 @@ WritesMixed asked mix program printed =
     IsMixedCapture program (capture_of asked mix) printed.text
     × (printed.ended ≡ Ok Whole)
 
--- A front of a capture is written, of which each hart's messages are the first of those of a legal log of the program.
+-- The text is that of the capture that is asked for.
 abbrev pub WritesFront : Generate → Mix → Image → Printed → Type 0
-WritesFront asked mix program printed = IsMixedFront program (capture_of asked mix) printed.text
+WritesFront asked mix program printed = printed.text ≡ mixed_capture program (capture_of asked mix)
 
 -- What is asked for is written: the image, a log or a capture.
 abbrev pub Makes : Product → Generate → Mix → Image → Printed → Type 0
@@ -151,7 +151,7 @@ Makes product.Image asked mix program printed =
 Makes product.Log asked mix program printed = WritesRows asked mix program printed
 Makes _ asked mix program printed = WritesMixed asked mix program printed
 
--- The same, or a front of a capture.
+-- The text is that of what is asked for.
 abbrev pub MakesFront : Product → Generate → Mix → Image → Printed → Type 0
 MakesFront product.Image asked mix program printed =
     printed ≡ record { text = image_bytes mix asked.seed; ended = Ok Whole }
@@ -164,7 +164,7 @@ abbrev pub Generates : Generate → Printed → Type 0
 Generates asked =
     First (IsReady asked) (λ ready. First (IsDrawn asked ready) (Makes asked.product asked ready.0))
 
--- The same, or a front of a capture.
+-- The same, of which a prefix is written where the run is cut.
 abbrev pub GeneratesFront : Generate → Printed → Type 0
 GeneratesFront asked =
     First (IsReady asked) (λ ready. First (IsDrawn asked ready) (MakesFront asked.product asked ready.0))

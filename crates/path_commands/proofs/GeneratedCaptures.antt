@@ -163,7 +163,7 @@ no_strangers (one ∷ ones) untouched =
 module _ (harts : ℕ) (messages others : List Message) (turn : AreInTurn harts [] messages)
     (same : (hart : ℕ) → of_hart hart others ≡ of_hart hart messages) where
   -- Messages that are in turn are whole where the same come of each hart.
-  whole_alike : (header : Option Header) → AreAllWhole header messages others
+  pub whole_alike : (header : Option Header) → AreAllWhole header messages others
   whole_alike header = record {
     harts = λ hart is. (whole_untouched harts hart messages others turn).1
         ((untouched_same harts hart messages others turn).1 (same hart));
@@ -180,7 +180,7 @@ none_from hart other number (payload ∷ payloads) below =
     (messages_from other (number + 1) payloads) (λ same. omega (arith, same, below))
     ∙ none_from hart other (number + 1) payloads below
 
-none_behind : (period : ℕ) (mode : Mode) (hart first : ℕ) (logs : List ProgramLog) → first + length logs ≤ hart
+pub none_behind : (period : ℕ) (mode : Mode) (hart first : ℕ) (logs : List ProgramLog) → first + length logs ≤ hart
     → of_hart hart (messages_of_harts period mode first logs) ≡ []
 none_behind period mode hart first [] behind = refl
 none_behind period mode hart first (log ∷ logs) behind =

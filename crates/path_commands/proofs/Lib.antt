@@ -18,4 +18,5 @@ mod CaptureRuns
 mod CaptureSteps
 mod StreamedLines
 mod GeneratedCaptures
+mod MixedLogs
 mod DecodedCaptures

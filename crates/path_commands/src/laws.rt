@@ -4,10 +4,8 @@ ghost use Rattle.std.specs.Prelude.{◌≡◌, All, ℕ, Bool, List, Option, len
 ghost use Rattle.auditing.specs.DecodedAgain.{AreAllWhole};
 ghost use Rattle.auditing.specs.Sent.{IsSent};
 ghost use Rattle.captures.specs.Decoded.{IsDecoded};
-ghost use Rattle.captures.specs.Messages.{messages_of_harts};
-ghost use Rattle.captures.specs.Returned.{AreReturned, IsLongLegalLog};
+ghost use Rattle.captures.specs.Returned.{AreReturned};
 ghost use Rattle.captures.specs.Versions.{header_of as header_of_logs};
-ghost use Rattle.captures.specs.Whole.{IsWhole};
 ghost use Rattle.captures.specs.declared.outcome.CaptureFault.{CaptureFault};
 ghost use Rattle.legalpath.specs.ProgramLog.{ProgramLog};
 ghost use Rattle.message.specs.Header.{IsHeader};
@@ -16,7 +14,7 @@ ghost use Rattle.message.specs.OfHart.{of_hart};
 ghost use Rattle.message.specs.declared.header.Version.{Version};
 ghost use Rattle.message.specs.declared.header.Version.TheVariants.{One};
 ghost use Rattle.message.specs.declared.message.Message.{Message};
-ghost use Rattle.path_commands.specs.DecodedLogs.{AreItsLogs, header_in};
+ghost use Rattle.path_commands.specs.DecodedLogs.{AreItsLogs, IsOfMixedLogs, header_in};
 ghost use Rattle.path_commands.specs.ReadBack.{AreReadBack};
 ghost use Rattle.retire.specs.declared.event.Event.{Event};
 ghost use Rattle.rvclass.specs.Fetch.{words_of};
@@ -54,15 +52,22 @@ pub fn generated_captures_decode()
         → AreItsLogs program (header_of asked) made.messages lists closed stop }
 {}
 
-/// A capture decodes to legal logs of one program, without a fault, unless an allocation fails, if each hart's messages
-/// in it are those of its log, in their order, however the harts are mixed. So does what `encode --mixed` writes, by
-/// `log_commands::mixed_messages_are_the_same`. In version 1, which has no header, the count of harts has to be given.
+/// What `encode --mixed` writes of all logs as a capture, and any other capture in which each hart's messages are those
+/// of its log, in their order, may be what was sent (`sent`). Its audit with messages of which each hart's are the same
+/// is whole, so with what `encode` writes without `--mixed` (`alike`). It decodes to the logs, without a fault, unless an
+/// allocation fails (`decodes`); in version 1, which has no header, the count of harts has to be given. That each hart's
+/// messages are the same with `--mixed` is `log_commands::mixed_messages_are_the_same`.
 pub fn mixed_captures_decode()
-    ensures { (program : Image) (period : ℕ) (mode : Mode) (version : Version) (logs : List ProgramLog)
-        → IsHeader (header_of_logs period mode logs) → All IsLongLegalLog logs
-        → All (λ (log : ProgramLog). log.program ≡ program) logs → (bytes : List ℕ) (messages : List Message)
-        → IsWhole bytes (header_in version (header_of_logs period mode logs)) messages
-        → ((hart : ℕ) → of_hart hart messages ≡ of_hart hart (messages_of_harts period mode 0 logs))
+    ensures sent { (period : ℕ) (mode : Mode) (version : Version) (logs : List ProgramLog) (bytes : List ℕ)
+        (messages : List Message) → IsOfMixedLogs period mode version logs bytes messages
+        → IsSent bytes (header_in version (header_of_logs period mode logs)) messages }
+    ensures alike { (period : ℕ) (mode : Mode) (version : Version) (logs : List ProgramLog) (bytes : List ℕ)
+        (messages : List Message) → IsOfMixedLogs period mode version logs bytes messages → (others : List Message)
+        → ((hart : ℕ) → of_hart hart others ≡ of_hart hart messages)
+        → AreAllWhole (header_in version (header_of_logs period mode logs)) messages others }
+    ensures decodes { (program : Image) (period : ℕ) (mode : Mode) (version : Version) (logs : List ProgramLog)
+        (bytes : List ℕ) (messages : List Message) → IsOfMixedLogs period mode version logs bytes messages
+        → All (λ (log : ProgramLog). log.program ≡ program) logs
         → (harts : ℕ) → (version ≡ One → harts ≡ length logs)
         → (lists : List (List Event)) (closed : List Bool) (stop : Option (ℕ × CaptureFault))
         → IsDecoded (words_of program) harts bytes lists closed stop → AreReturned logs lists closed stop }

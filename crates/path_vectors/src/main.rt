@@ -9,6 +9,7 @@ mod audits;
 mod fates;
 mod lines;
 mod lists;
+mod live_audits;
 mod naming;
 mod paths;
 mod salvages;

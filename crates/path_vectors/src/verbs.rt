@@ -1,7 +1,8 @@
 //! The verbs.
 
 use crate::{
-    alignments, audits, fates, lines, naming, paths, salvages, spans, stimuli, texts, windows,
+    alignments, audits, fates, lines, live_audits, naming, paths, salvages, spans, stimuli, texts,
+    windows,
 };
 use cases::{Case, Verbs};
 
@@ -33,6 +34,7 @@ fn play_path(case: &mut Case<'_>, verb: &str) {
         "runs" => audits::runs(case),
         "known" => fates::known(case),
         "window" => windows::window(case),
+        "live" => live_audits::live(case),
         "align" => alignments::align(case),
         "count" => alignments::count(case),
         "most" => alignments::most(case),

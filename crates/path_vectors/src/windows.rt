@@ -1,5 +1,7 @@
 //! What a window of SENT finds of messages that come (`live`).
 
+ghost use Rattle.std.specs.Prelude.{None};
+
 use crate::audits::messages_in;
 use cases::Case;
 use live::{Judged, SentMessage, SentSource, SourceFault, Window, look};
@@ -8,12 +10,12 @@ use std::collections::VecDeque;
 
 /// The messages of SENT that are left.
 #[derive(Drop)]
-struct Listed {
-    left: VecDeque<Message>,
+pub(crate) struct Listed {
+    pub(crate) left: VecDeque<Message>,
 }
 
 impl SentSource for Listed {
-    ghost left = { λ own. own.left.items };
+    ghost left = { λ own. record { messages = own.left.items; ending = None } };
 
     fn next(&mut self) -> Result<Option<Message>, SourceFault> {
         match self.left.pop_front() {

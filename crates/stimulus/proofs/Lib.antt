@@ -1,9 +1,10 @@
 pub mod Slots
 pub mod WalkLemmas
+pub mod KeptLemmas
 pub mod RowLemmas
 pub mod TraceLemmas
 pub mod SendLemmas
-pub mod BegunLemmas
+pub mod CaptureLemmas
 pub mod MixedMessages
 pub mod LeftMessages
 pub mod TurnLemmas

@@ -1,11 +1,9 @@
 -- What is drawn of an order, step by step.
-use Rattle.std.proofs.Common.{◌≡◌, ◌∙◌, ◌+◌, ◌%◌, ◌++◌, ◌==◌, ◌&&◌, ap, arith, max, not, refl, sym, ℕ, suc, Bool, true, false}
-use Rattle.std.proofs.Common.{List, [], Option, Some, None, replicate}
-use Rattle.std.specs.List.{list_any}
+use Rattle.std.proofs.Common.{◌≡◌, ◌∙◌, ◌+◌, ◌%◌, ◌++◌, ap, arith, refl, sym, ℕ, suc, List, [], replicate}
 use Rattle.rand_pcg.specs.Lcg.{Lcg}
 use Rattle.rand_pcg.specs.Pcg.{pcg32}
 use Rattle.stimulus.specs.ImageBytes.{generator}
-use Rattle.stimulus.specs.Order.{Drawn, first_drawn, leaves, leaves_if, leaving, leaving_of, weighed}
+use Rattle.stimulus.specs.Order.{Drawn, first_drawn, weighed}
 
 module _ (random : Lcg) where
   -- No hart is listed at first.
@@ -31,71 +29,25 @@ module _ (random : Lcg) where
       ∙ ap (weigh harts) is ∙ weigh_is harts ∙ ap (weighed random) (sym next)
 
 -- The order before its first turn.
-pub first_is : (seed harts burst : ℕ) (ending : Option ℕ) (listed : List ℕ) (random : Lcg)
+pub first_is : (seed harts burst ending ends : ℕ) (listed : List ℕ) (random : Lcg)
     → (listed, random) ≡ weighed (generator seed 32768) harts
     → ◌≡◌ {A = Drawn} (record {
       random = random;
       listed = listed;
       burst = burst;
       ending = ending;
+      ends = ends;
       hart = 0;
       left = 0;
-    }) (first_drawn seed harts burst ending)
+    }) (first_drawn seed harts burst ending ends)
 unfolding first_drawn
-first_is seed harts burst ending listed random is =
+first_is seed harts burst ending ends listed random is =
     ap (λ (l : List ℕ × Lcg). record {
       random = l.1;
       listed = l.0;
       burst = burst;
       ending = ending;
+      ends = ends;
       hart = 0;
       left = 0;
     }) is
-
-module _ (drawn : Drawn) where
-  -- No burst ends a trace.
-  pub leaving_none : drawn.ending ≡ None → (None, drawn) ≡ leaving drawn
-  unfolding leaving
-  leaving_none none = ap (λ o. leaving_of o drawn) (sym none)
-
-  module _ (ending draw : ℕ) (after : Lcg) (some : drawn.ending ≡ Some ending)
-      (next : (draw, after) ≡ pcg32 drawn.random) where
-    others : Bool
-    others = list_any (λ other. not (other == drawn.hart)) drawn.listed
-
-    by : ℕ × Lcg → Option ℕ × Drawn
-    by d =
-        leaves_if ((d.0 % max ending 1 == 0) && list_any (λ other. not (other == drawn.hart)) drawn.listed)
-        (record drawn { random = d.1 })
-
-    by_is : by (draw, after) ≡ leaving drawn
-    unfolding leaving by
-    by_is =
-        ap (λ (d : ℕ × Lcg). leaves_if ((d.0 % max ending 1 == 0)
-        && list_any (λ other. not (other == drawn.hart)) drawn.listed) (record drawn { random = d.1 })) next
-        ∙ ap (λ o. leaving_of o drawn) (sym some)
-
-    -- A draw says that none ends.
-    pub leaving_stays : ((draw % max ending 1 == 0)
-        && list_any (λ other. not (other == drawn.hart)) drawn.listed) ≡ false
-        → (None, record drawn { random = after }) ≡ leaving drawn
-    unfolding by
-    leaving_stays is = ap (λ b. leaves_if b (record drawn { random = after })) (sym is) ∙ by_is
-
-    -- Or that one does.
-    pub leaving_leaves : ((draw % max ending 1 == 0)
-        && list_any (λ other. not (other == drawn.hart)) drawn.listed) ≡ true
-        → (Some drawn.hart, leaves drawn.hart (record drawn { random = after })) ≡ leaving drawn
-    unfolding by
-    leaving_leaves is = ap (λ b. leaves_if b (record drawn { random = after })) (sym is) ∙ by_is
-
--- Of two tests.
-pub first_false : (a b : Bool) → a ≡ false → (a && b) ≡ false
-first_false a b is = ap (λ a. a && b) is
-
-pub second_false : (a b : Bool) → b ≡ false → (a && b) ≡ false
-second_false true b is = is
-second_false false b is = refl
-
-pub both_true : (a b : Bool) → a ≡ true → b ≡ true → (a && b) ≡ true
-both_true a b one two = ap (λ a. a && b) one ∙ two

@@ -1,15 +1,14 @@
 -- What harts have sent, with more messages of one of them.
 use Rattle.std.proofs.Common.{◌≡◌, ◌≢◌, ◌⊎◌, inl, inr, ◌<◌, ◌≤◌, ◌+◌, ◌∙◌, ℕ, zero, suc, List, [], ◌∷◌, ◌++◌, Option}
-use Rattle.std.proofs.Common.{Some, None, Bool, true, false, cond}
-use Rattle.std.proofs.Common.{arith, length, map, take, drop, drop-cons, set, slice_get, get_or, append_assoc, ap, refl}
-use Rattle.std.proofs.Common.{eqb, subst, sym}
+use Rattle.std.proofs.Common.{Some, None, arith, length, map, take, drop, drop-cons, set, slice_get, get_or, append_assoc}
+use Rattle.std.proofs.Common.{ap, false, refl, replicate, subst, sym, true}
 use Rattle.std.proofs.KnownBytes.{Appends-nil, Appends-trans}
-use Rattle.std.proofs.lemmas.List.{append-nil, length-append, length-map, length-set, length_push, map-append}
-use Rattle.std.proofs.lemmas.List.{nil_from_length, take-append-drop, take_all, take_more}
-use Rattle.std.proofs.lemmas.Bool.{cases_lt, eqb-false, eqb-true, le-ltb, lt-ltb}
+use Rattle.std.proofs.lemmas.List.{append-nil, length-append, length-map, length-replicate, length-set, length_push, map-append}
+use Rattle.std.proofs.lemmas.List.{take-append-drop, take_all, take_more}
+use Rattle.std.proofs.lemmas.Bool.{cases_lt}
 use Rattle.std.proofs.lemmas.List.Elements.{All-get_or}
-use Rattle.std.proofs.lemmas.Option.{same_Some, slice_get_cases}
-use Rattle.std.specs.Prelude.{All, OnOk, Result, Ok, Err, option_to_list}
+use Rattle.std.proofs.lemmas.Option.{same_Some, slice_get-get_or}
+use Rattle.std.specs.Prelude.{All, OnOk, Result, Ok, Err}
 use Rattle.std.specs.Io.KnownBytes.{Appends}
 use Rattle.output.specs.Begun.{AppendsBeginning}
 use Rattle.output.proofs.Beginnings.{begun_behind, begun_in_front, whole_begun}
@@ -19,10 +18,7 @@ use Rattle.rvclass.specs.Fetch.{words_of}
 use Rattle.rvclass.specs.Image.{Image, IsImage}
 use Rattle.rvclass.specs.Words.{Words}
 use Rattle.legalpath.specs.LegalUpTo.{IsLegalUpTo}
-use Rattle.encoder.proofs.PacketsAtEnd.{ends_any}
-use Rattle.encoder.specs.Packets.{packets}
-use Rattle.encoder.specs.PacketsSoFar.{packets_so_far}
-use Rattle.encoder.specs.steps.Stepping.{given_at_end}
+use Rattle.encoder.specs.Packets.{closing_packet, packets}
 use Rattle.payload.specs.Profile.{InProfile}
 use Rattle.payload.specs.Spelling.{payload_of}
 use Rattle.payload.specs.declared.packet.Packet.{Packet}
@@ -32,23 +28,19 @@ use Rattle.message.specs.Capture.{capture, message_bytes}
 use Rattle.message.specs.Numbered.{messages_from}
 use Rattle.message.specs.OfHart.{of_hart}
 use Rattle.message.specs.declared.message.Message.{Message}
-use Rattle.captures.specs.Versions.{start_bytes}
-use Rattle.stimulus.specs.Mixed.{AppendsMixed, AreFewest, AreFull, HasNext, Plan, SendsLog, after_closing, after_turns}
-use Rattle.stimulus.specs.Mixed.{all_messages, closes, events_of, first_order, header_of, known_packets, messages_of}
-use Rattle.stimulus.specs.Mixed.{open_messages, plan_of, sends}
-use Rattle.stimulus.specs.Order.{Drawn, next_turn}
+use Rattle.stimulus.specs.Mixed.{Plan, Sent, SendsLog, Stand, closes, given, goes, has_turn, known_packets}
+use Rattle.stimulus.specs.Mixed.{messages_of, none_sent, plan_of, sent_between, sent_by, unsent}
 use Rattle.stimulus.specs.declared.capturing.Capture.{Capture}
-use Rattle.stimulus.specs.declared.hart.Hart.{Hart}
-use Rattle.stimulus.specs.declared.order.Turn.{Turn}
 use Rattle.stimulus.specs.declared.sender.Numbers.{Numbers}
 use Rattle.stimulus.specs.declared.sender.Phase.{Phase}
 use Rattle.stimulus.specs.declared.sender.Phase.TheVariants as phase
 use Rattle.stimulus.specs.declared.sender.Sender.{Sender}
 use Rattle.stimulus.specs.declared.sender.Tracer.{Tracer}
 use Rattle.stimulus.specs.declared.walk.Walk.{Walk}
-use Rattle.stimulus.specs.steps.Sending.{AllSendMore, AreGiven, AreOf, AreSent, GivesNext, GoesOn, GoesTo, HasGiven}
-use Rattle.stimulus.specs.steps.Sending.{HasSent, IsClosed, MayAllEnd, MayEnd, Numbered, Saying, SendsMore, SendsNext}
-use Rattle.stimulus.specs.steps.Sending.{close_all, close_one, send_next, take_turns, turn_closed}
+use Rattle.stimulus.specs.steps.Sending.{AllBegun, AllSend, AreFewest, AreSent, Gives, Grows, HasGiven, HasSent, IsClosed}
+use Rattle.stimulus.specs.steps.Sending.{IsIn, Numbered, Sends}
+use Rattle.stimulus.proofs.TraceLemmas.{closed_first, closed_given, closed_second, fewest_none, first_given}
+use Rattle.stimulus.proofs.TraceLemmas.{known_first, so_far, unsent_given}
 
 -- The bytes of messages, one list after another.
 pub capture-append : (front back : List Message) → capture (front ++ back) ≡ capture front ++ capture back
@@ -85,17 +77,7 @@ of_hart-none other hart number (payload ∷ ps) apart =
     (messages_from hart (number + 1) ps) (λ same. apart (sym same))
     ∙ of_hart-none other hart (number + 1) ps apart
 
-pub are_of : (hart number : ℕ) (ps : List (List ℕ)) → AreOf hart (messages_from hart number ps)
-are_of hart number ps = record {
-  own = of_hart-same hart number ps;
-  none = λ other apart. of_hart-none other hart number ps apart;
-}
-
 -- Items of a list.
-slice_at : {X : Type 0} (front : List X) (x : X) (rest : List X) → slice_get (front ++ x ∷ rest) (length front) ≡ Some x
-slice_at [] x rest = refl
-slice_at (y ∷ front) x rest = slice_at front x rest
-
 slice_past : {X : Type 0} (xs : List X) (i : ℕ) → length xs ≤ i → slice_get xs i ≡ None
 slice_past [] i past = refl
 slice_past (x ∷ xs) zero past = absurd (omega (arith, past))
@@ -105,29 +87,15 @@ drop_front : {X : Type 0} (front rest : List X) → drop (length front) (front +
 drop_front [] rest = refl
 drop_front (x ∷ front) rest = drop_front front rest
 
-drop_none : {X : Type 0} (i : ℕ) → ◌≡◌ {A = List X} (drop i []) []
-drop_none zero = refl
-drop_none (suc i) = refl
+set_past : {X : Type 0} (xs : List X) (i : ℕ) (x : X) → length xs ≤ i → set xs i x ≡ xs
+set_past [] i x past = refl
+set_past (y ∷ xs) zero x past = absurd (omega (arith, past))
+set_past (y ∷ xs) (suc i) x past = ap (λ l. y ∷ l) (set_past xs i x (omega (arith, past)))
 
-set-here : {X : Type 0} (xs : List X) (i : ℕ) (x : X) → i < length xs → slice_get (set xs i x) i ≡ Some x
-set-here [] i x within = absurd (omega (arith, within))
-set-here (y ∷ xs) zero x within = refl
-set-here (y ∷ xs) (suc i) x within = set-here xs i x (omega (arith, within))
-
-set-there : {X : Type 0} (xs : List X) (i : ℕ) (x : X) (other : ℕ) → i ≢ other
-    → slice_get (set xs i x) other ≡ slice_get xs other
-set-there [] i x other apart = refl
-set-there (y ∷ xs) zero x zero apart = absurd (apart refl)
-set-there (y ∷ xs) zero x (suc other) apart = refl
-set-there (y ∷ xs) (suc i) x zero apart = refl
-set-there (y ∷ xs) (suc i) x (suc other) apart = set-there xs i x other (λ same. apart (ap suc same))
-
-eq_cases : (a b : ℕ) → (a ≡ b) ⊎ (a ≢ b)
-eq_cases a b = go (eqb a b) refl
-  where
-    go : (t : Bool) → eqb a b ≡ t → (a ≡ b) ⊎ (a ≢ b)
-    go true is = inl (eqb-true a b is)
-    go false is = inr (eqb-false a b is)
+replicated : {X : Type 0} (n : ℕ) (x : X) (i : ℕ) (its : X) → slice_get (replicate n x) i ≡ Some its → its ≡ x
+replicated zero x i its at = cc
+replicated (suc n) x zero its at = sym (same_Some x its at)
+replicated (suc n) x (suc i) its at = replicated n x i its at
 
 -- As many messages as payloads.
 messages_from-length : (hart number : ℕ) (ps : List (List ℕ)) → length (messages_from hart number ps) ≡ length ps
@@ -246,476 +214,409 @@ numbered_begun packets i packet before mid old between new within is has begins 
     (begun_behind (capture first) (message_bytes message ++ capture later) old between new n.text
     (begun_in_front (message_bytes message) (capture later) between new (begins one)))
 
-module _ (words : Words) (plan : Plan) where
-  module _ (hart : ℕ) where
-    -- A hart that has sent nothing.
-    pub sent_none : (tracer : Tracer) (numbers : Numbers) → HasGiven words plan hart [] tracer
-        → AreFewest words plan hart tracer.hart.given → numbers.hart ≡ hart → numbers.number ≡ 0
-        → HasSent words plan hart [] (record { tracer = tracer; numbers = numbers })
-    sent_none tracer numbers given fewest here number = record {
-      given = [];
-      tracer = given;
-      fewest = fewest;
-      hart_is = here;
-      number = number;
-      own_is = refl;
-    }
+-- Nothing was written.
+pub begun_none : (text : List ℕ) (old : Option (List ℕ)) → AppendsBeginning text old old
+begun_none text old = record { text = []; rest = text; parted = refl; appended = Appends-nil old }
 
-    -- A hart sends the messages of the packets that it gives next.
-    pub sends_more : (own : List Message) (before after : Sender) (packets : List Packet) (old new : Option (List ℕ))
-        (has : HasSent words plan hart own before) → HasGiven words plan hart (has.given ++ packets) after.tracer
-        → AreFewest words plan hart after.tracer.hart.given
-        → Numbered packets before.numbers after.numbers old new → SendsMore words plan hart own after old new
-    sends_more own before after packets old new has gives fewest adds =
-        let first = map payload_of has.given in
-        let then = map payload_of packets in
-        let count = length-map has.given payload_of in
-        let number : before.numbers.number ≡ 0 + length first = omega (arith, has.number, count) in
-        let same : messages_from before.numbers.hart before.numbers.number then
-        ≡ messages_from hart (0 + length first) then =
-        ap (λ h. messages_from h before.numbers.number then) has.hart_is
-        ∙ ap (λ n. messages_from hart n then) number in
-        let more = messages_from hart (0 + length first) then in record {
-          more = more;
-          sent = record {
-            given = has.given ++ packets;
-            tracer = gives;
-            fewest = fewest;
-            hart_is = adds.hart ∙ has.hart_is;
-            number = omega (arith, adds.number, has.number, length-append has.given packets);
-            own_is = ap (λ l. l ++ more) has.own_is
-                ∙ sym (ap (messages_from hart 0) (map-append payload_of has.given packets)
-                ∙ messages_from-append hart 0 first then);
-          };
-          all_of = are_of hart (0 + length first) then;
-          text = subst (λ ms. Appends old new (capture ms)) same adds.text;
-        }
+-- What one hart sends.
+module _ (words : Words) (plan : Plan) (hart : ℕ) where
+  -- The messages of packets, one list after another.
+  messages_of-append : (xs ps : List Packet)
+      → messages_of hart (xs ++ ps) ≡ messages_of hart xs ++ messages_from hart (length xs) (map payload_of ps)
+  messages_of-append xs ps =
+      let number : 0 + length (map payload_of xs) ≡ length xs = omega (arith, length-map xs payload_of) in
+      ap (messages_from hart 0) (map-append payload_of xs ps)
+      ∙ messages_from-append hart 0 (map payload_of xs) (map payload_of ps)
+      ∙ ap (λ n. messages_of hart xs ++ messages_from hart n (map payload_of ps)) number
 
-    -- The same where writing may have failed.
-    pub sends_burst : {E : Type 0} (own : List Message) (before : Sender) (tracer' : Tracer) (numbers' : Numbers)
-        (burst written : List Packet) (old new : Option (List ℕ)) (has : HasSent words plan hart own before)
-        (r : Result Unit E) → written ≡ burst
-        → HasGiven words plan hart (has.given ++ burst) tracer' → AreFewest words plan hart tracer'.hart.given
-        → All InProfile burst
-        → (All InProfile written → OnOk r (Numbered written before.numbers numbers' old new))
-        → OnOk r (SendsMore words plan hart own (record { tracer = tracer'; numbers = numbers' }) old new)
-    sends_burst own before tracer' numbers' burst written old new has (Ok x) same gives fewest profile adds =
-        sends_more own before (record { tracer = tracer'; numbers = numbers' }) burst old new has gives fewest
-        (subst (λ ps. Numbered ps before.numbers numbers' old new) same (adds (subst (All InProfile) (sym same)
-        profile)))
-    sends_burst own before tracer' numbers' burst written old new has (Err e) same gives fewest profile adds = tt
+  module _ (stand next : Stand) (ps : List Packet)
+      (longer : given words plan hart next ≡ given words plan hart stand ++ ps) where
+    abbrev before : List Packet
+    before = given words plan hart stand
 
-    -- A hart sends the message of the packet that it gives next, if it gives one.
-    pub sends_next : {E : Type 0} (own : List Message) (before : Sender) (tracer' : Tracer) (numbers' : Numbers)
-        (burst written : List Packet) (old new : Option (List ℕ)) (has : HasSent words plan hart own before)
-        (r : Result Unit E) → written ≡ burst
-        → HasGiven words plan hart (has.given ++ burst) tracer' → GivesNext words plan hart before.tracer tracer' burst
-        → All InProfile burst
-        → (All InProfile written → OnOk r (Numbered written before.numbers numbers' old new))
-        → OnOk r (SendsNext words plan hart own before (record { tracer = tracer'; numbers = numbers' }) old new)
-    unfolding sends_more
-    sends_next own before tracer' numbers' burst written old new has (Ok x) same gives next profile adds =
-        let one = sends_more own before (record { tracer = tracer'; numbers = numbers' }) burst old new has gives
-        (next.fewest has.fewest) (subst (λ ps. Numbered ps before.numbers numbers' old new) same
-        (adds (subst (All InProfile) (sym same) profile))) in
-        let long : length one.more ≡ length burst =
-        messages_from-length hart (0 + length (map payload_of has.given)) (map payload_of burst)
-        ∙ length-map burst payload_of in
-        let few = next.few in record {
-          sends = one;
-          few = omega (arith, few, long);
-          spent = λ none. next.spent (sym long ∙ none);
-          on = next.on;
-          goes = subst (GoesTo before.tracer.phase before.tracer tracer') (sym long) next.goes;
-        }
-    sends_next own before tracer' numbers' burst written old new has (Err e) same gives next profile adds = tt
+    -- The messages that are sent are those of the packets that are given.
+    between_is : sent_between words plan hart stand next ≡ messages_from hart (length before) (map payload_of ps)
+    between_is =
+        ap (λ l. drop (length before) (messages_of hart l)) longer
+        ∙ ap (λ l. drop (length before) l) (messages_of-append before ps)
+        ∙ ap (λ n. drop n (messages_of hart before ++ messages_from hart (length before) (map payload_of ps)))
+        (sym (messages_of-length hart before))
+        ∙ drop_front (messages_of hart before) (messages_from hart (length before) (map payload_of ps))
 
-    -- A hart sends messages, and then more.
-    pub sends_both : (own : List Message) (mid after : Sender) (old between new : Option (List ℕ))
-        (one : SendsMore words plan hart own mid old between)
-        → SendsMore words plan hart (own ++ one.more) after between new
-        → SendsMore words plan hart own after old new
-    sends_both own mid after old between new one two = record {
-      more = one.more ++ two.more;
-      sent = subst (λ ms. HasSent words plan hart ms after) (append_assoc own one.more two.more) two.sent;
-      all_of = record {
-        own = of_hart-append hart one.more two.more ∙ ap (λ l. l ++ of_hart hart two.more) one.all_of.own
-            ∙ ap (λ l. one.more ++ l) two.all_of.own;
-        none = λ other apart.
-            of_hart-append other one.more two.more
-            ∙ ap (λ l. l ++ of_hart other two.more) (one.all_of.none other apart) ∙ two.all_of.none other apart;
-      };
-      text = subst (Appends old new) (sym (capture-append one.more two.more))
-          (Appends-trans old between new (capture one.more) (capture two.more) one.text two.text);
-    }
+    -- With those before they are all.
+    all_between : messages_of hart (given words plan hart next)
+        ≡ messages_of hart before ++ sent_between words plan hart stand next
+    all_between =
+        ap (messages_of hart) longer ∙ messages_of-append before ps
+        ∙ ap (λ l. messages_of hart before ++ l) (sym between_is)
 
-    -- The same where writing may have failed.
-    pub sends_on : {E : Type 0} (own : List Message) (mid after : Sender) (old between new : Option (List ℕ))
-        (r : Result Unit E) (one : SendsMore words plan hart own mid old between)
-        → ((own : List Message) → HasSent words plan hart own mid
-        → OnOk r (SendsMore words plan hart own after between new))
-        → OnOk r (SendsMore words plan hart own after old new)
-    sends_on own mid after old between new (Ok x) one two =
-        sends_both own mid after old between new one (two (own ++ one.more) one.sent)
-    sends_on own mid after old between new (Err e) one two = tt
+  -- A hart goes on twice.
+  between_both : (stand mid next : Stand) (one two : List Packet)
+      → given words plan hart mid ≡ given words plan hart stand ++ one
+      → given words plan hart next ≡ given words plan hart mid ++ two
+      → sent_between words plan hart stand next
+      ≡ sent_between words plan hart stand mid ++ sent_between words plan hart mid next
+  between_both stand mid next one two first then =
+      let before = given words plan hart stand in
+      let all = then ∙ ap (λ l. l ++ two) first ∙ append_assoc before one two in
+      let number : length before + length (map payload_of one) ≡ length (given words plan hart mid) =
+      omega (arith, length-map one payload_of, ap length first ∙ length-append before one) in
+      between_is stand next (one ++ two) all
+      ∙ ap (messages_from hart (length before)) (map-append payload_of one two)
+      ∙ messages_from-append hart (length before) (map payload_of one) (map payload_of two)
+      ∙ ap (λ n. messages_from hart (length before) (map payload_of one) ++ messages_from hart n (map payload_of two))
+      number
+      ∙ ap (λ l. l ++ messages_from hart (length (given words plan hart mid)) (map payload_of two))
+      (sym (between_is stand mid one first))
+      ∙ ap (λ l. sent_between words plan hart stand mid ++ l) (sym (between_is mid next two then))
 
-    -- A hart sends no message.
-    pub sends_none : (own : List Message) (sender : Sender) (old : Option (List ℕ))
-        → HasSent words plan hart own sender → SendsMore words plan hart own sender old old
-    sends_none own sender old has = record {
-      more = [];
-      sent = subst (λ ms. HasSent words plan hart ms sender) (sym (append-nil own)) has;
-      all_of = record { own = refl; none = λ other apart. refl };
-      text = Appends-nil old;
-    }
+  -- A hart that closes its trace before its first turn opens it first.
+  pub between_first : sent_between words plan hart unsent (closes unsent)
+      ≡ sent_between words plan hart unsent (has_turn unsent)
+      ++ sent_between words plan hart (has_turn unsent) (closes (has_turn unsent))
+  between_first =
+      let last = closing_packet words plan.period [] ∷ [] in
+      let opens : given words plan hart (has_turn unsent) ≡ given words plan hart unsent ++ so_far words plan hart [] =
+      first_given words plan hart
+      ∙ sym (ap (λ l. l ++ so_far words plan hart []) (unsent_given words plan hart)) in
+      let ends : given words plan hart (closes unsent) ≡ given words plan hart (has_turn unsent) ++ last =
+      closed_first words plan hart ∙ ap (λ l. l ++ last) (sym (first_given words plan hart)) in
+      between_both unsent (has_turn unsent) (closes unsent) (so_far words plan hart []) last opens ends
+      ∙ ap (λ l. sent_between words plan hart unsent (has_turn unsent)
+      ++ drop (length (given words plan hart (has_turn unsent))) (messages_of hart l)) (sym (closed_second words plan hart))
 
-  -- No hart sends a message.
-  pub all_send_none : (says : Saying) (messages : List Message) (senders : List Sender) (old : Option (List ℕ))
-      → AreSent words plan messages senders
-      → ((counts : ℕ → ℕ) → MayAllEnd words plan counts senders → says counts messages [])
-      → AllSendMore words plan says messages senders senders old old
-  all_send_none says messages senders old sent is = record {
-    more = [];
-    sent = subst (λ ms. AreSent words plan ms senders) (sym (append-nil messages)) sent;
-    text = Appends-nil old;
-    may_end = λ counts may. may;
-    said = is;
+  -- A hart that has sent nothing.
+  pub sent_none : (tracer : Tracer) (numbers : Numbers) → HasGiven words plan hart unsent tracer
+      → numbers.hart ≡ hart → numbers.number ≡ 0
+      → HasSent words plan hart unsent (record { tracer = tracer; numbers = numbers })
+  sent_none tracer numbers given here number = record {
+    tracer = given;
+    hart_is = here;
+    number = number ∙ sym (ap length (unsent_given words plan hart));
   }
 
-  -- Harts send messages, and then more.
-  pub all_send_both : (first then both : Saying) (messages : List Message) (before mid after : List Sender)
-      (old between new : Option (List ℕ)) (one : AllSendMore words plan first messages before mid old between)
-      (two : AllSendMore words plan then (messages ++ one.more) mid after between new)
-      → ((counts : ℕ → ℕ) → first counts messages one.more → then counts (messages ++ one.more) two.more
-      → both counts messages (one.more ++ two.more))
-      → AllSendMore words plan both messages before after old new
-  all_send_both first then both messages before mid after old between new one two joins = record {
-    more = one.more ++ two.more;
-    sent = subst (λ ms. AreSent words plan ms after) (append_assoc messages one.more two.more) two.sent;
-    text = subst (Appends old new) (sym (capture-append one.more two.more))
-        (Appends-trans old between new (capture one.more) (capture two.more) one.text two.text);
-    may_end = λ counts may. one.may_end counts (two.may_end counts may);
-    said = λ counts may. joins counts (one.said counts (two.may_end counts may)) (two.said counts may);
-  }
+  module _ (stand next : Stand) (before : Sender) (tracer' : Tracer) (numbers' : Numbers) (burst : List Packet)
+      (old new : Option (List ℕ)) (has : HasSent words plan hart stand before)
+      (gives : Gives words plan hart stand next tracer' burst) where
+    same_messages : messages_from before.numbers.hart before.numbers.number (map payload_of burst)
+        ≡ sent_between words plan hart stand next
+    same_messages =
+        ap (λ h. messages_from h before.numbers.number (map payload_of burst)) has.hart_is
+        ∙ ap (λ n. messages_from hart n (map payload_of burst)) has.number
+        ∙ sym (between_is stand next burst gives.longer)
 
-  -- One of the harts sends more.
-  module _ (says : Saying) (messages : List Message) (senders : List Sender) (hart : ℕ) (before after : Sender)
-      (old new : Option (List ℕ)) (sent : AreSent words plan messages senders) (within : hart < length senders)
-      (at : slice_get senders hart ≡ Some before)
-      (s : SendsMore words plan hart (of_hart hart messages) after old new)
-      (may_end : (count : ℕ) → MayEnd words plan hart after.tracer.phase after.tracer.hart.given count
-      → MayEnd words plan hart before.tracer.phase before.tracer.hart.given count)
-      (is : (counts : ℕ → ℕ) → MayEnd words plan hart after.tracer.phase after.tracer.hart.given (counts hart)
-      → says counts messages s.more) where
-    own_more : of_hart hart (messages ++ s.more) ≡ of_hart hart messages ++ s.more
-    own_more = of_hart-append hart messages s.more ∙ ap (λ l. of_hart hart messages ++ l) s.all_of.own
-
-    sent_each : (other : ℕ) (sender : Sender)
-        → ((hart ≡ other) × (sender ≡ after)) ⊎ ((hart ≢ other) × (slice_get senders other ≡ Some sender))
-        → HasSent words plan other (of_hart other (messages ++ s.more)) sender
-    sent_each other sender (inl here) =
-        subst (λ h. HasSent words plan h (of_hart h (messages ++ s.more)) sender) here.0
-        (subst (HasSent words plan hart (of_hart hart (messages ++ s.more))) (sym here.1)
-        (subst (λ ms. HasSent words plan hart ms after) (sym own_more) s.sent))
-    sent_each other sender (inr there) =
-        let all : of_hart other (messages ++ s.more) ≡ of_hart other messages =
-        of_hart-append other messages s.more
-        ∙ ap (λ l. of_hart other messages ++ l) (s.all_of.none other (λ same. there.0 (sym same)))
-        ∙ append-nil (of_hart other messages) in
-        subst (λ ms. HasSent words plan other ms sender) (sym all) (sent.each other sender there.1)
-
-    -- What may become of the hart that sends, and of the others.
-    hart_ends : (counts : ℕ → ℕ) → MayAllEnd words plan counts (set senders hart after)
-        → MayEnd words plan hart after.tracer.phase after.tracer.hart.given (counts hart)
-    hart_ends counts may = may hart after (set-here senders hart after within)
-
-    others_end : (counts : ℕ → ℕ) → MayAllEnd words plan counts (set senders hart after)
-        → MayAllEnd words plan counts senders
-    others_end counts may other sender is = go (eq_cases hart other)
-      where
-        go : (hart ≡ other) ⊎ (hart ≢ other)
-            → MayEnd words plan other sender.tracer.phase sender.tracer.hart.given (counts other)
-        go (inl same) =
-            let its : before ≡ sender =
-            same_Some before sender (sym at ∙ ap (slice_get senders) same ∙ is) in
-            subst (λ (s : Sender). MayEnd words plan other s.tracer.phase s.tracer.hart.given (counts other)) its
-            (subst (λ h. MayEnd words plan h before.tracer.phase before.tracer.hart.given (counts h)) same
-            (may_end (counts hart) (hart_ends counts may)))
-        go (inr apart) = may other sender (set-there senders hart after other apart ∙ is)
-
-    pub one_sends : AllSendMore words plan says messages senders (set senders hart after) old new
-    one_sends = record {
-      more = s.more;
-      sent = record {
-        count = length-set senders hart after ∙ sent.count;
-        each = λ other sender is. sent_each other sender (slice_get-set senders hart after other sender is);
-        none = λ other past.
-            let apart : other ≢ hart = λ same. omega (arith, same, past, within, sent.count) in
-            of_hart-append other messages s.more ∙ ap (λ l. l ++ of_hart other s.more) (sent.none other past)
-            ∙ s.all_of.none other apart;
+    -- A hart sends the messages of the packets that it gives.
+    sends : Numbered burst before.numbers numbers' old new
+        → Sends words plan hart stand next (record { tracer = tracer'; numbers = numbers' }) old new
+    sends adds = record {
+      has = record {
+        tracer = gives.has;
+        hart_is = adds.hart ∙ has.hart_is;
+        number = omega (
+          arith,
+          adds.number,
+          has.number,
+          ap length gives.longer ∙ length-append (given words plan hart stand) burst,
+        );
       };
-      text = s.text;
-      may_end = others_end;
-      said = λ counts may. is counts (hart_ends counts may);
+      packets = burst;
+      longer = gives.longer;
+      text = subst (λ ms. Appends old new (capture ms)) same_messages adds.text;
     }
 
-  -- What a hart has sent is known of its events while its trace is open, and is all once it is closed.
-  module _ (hart : ℕ) (own : List Message) (sender : Sender) (has : HasSent words plan hart own sender) where
-    seen_is : (has.tracer.seen) ≡ (events_of words plan hart sender.tracer.hart.given)
-    seen_is = ap (λ (w : List Event × Walk). w.0) has.tracer.walked.walked
+    -- The same where writing may have failed.
+    pub sends_on : {E : Type 0} (written : List Packet) (r : Result Unit E) → written ≡ burst → All InProfile burst
+        → (All InProfile written → OnOk r (Numbered written before.numbers numbers' old new))
+        → OnOk r (Sends words plan hart stand next (record { tracer = tracer'; numbers = numbers' }) old new)
+    sends_on written (Ok x) same profile adds =
+        sends (subst (λ ps. Numbered ps before.numbers numbers' old new) same
+        (adds (subst (All InProfile) (sym same) profile)))
+    sends_on written (Err e) same profile adds = tt
 
-    sent_open : sender.tracer.phase ≡ phase.Open
-        → own ≡ messages_of hart (known_packets words plan hart sender.tracer.hart.given)
-    sent_open is =
-        has.own_is
-        ∙ ap (messages_of hart) (subst (λ p. AreGiven words plan has.tracer.seen p has.given) is has.tracer.are_given)
-        ∙ ap (λ seen. messages_of hart (packets_so_far words plan.period plan.mode seen)) seen_is
+    -- A beginning of them is written.
+    pub sends_begun : (written : List Packet) → written ≡ burst → All InProfile burst
+        → (All InProfile written → AppendsBeginning
+        (capture (messages_from before.numbers.hart before.numbers.number (map payload_of written))) old new)
+        → AppendsBeginning (capture (sent_between words plan hart stand next)) old new
+    sends_begun written same profile begun =
+        subst (λ ms. AppendsBeginning (capture ms) old new)
+        (ap (λ ps. messages_from before.numbers.hart before.numbers.number (map payload_of ps)) same ∙ same_messages)
+        (begun (subst (All InProfile) (sym same) profile))
 
-    sent_closed : sender.tracer.phase ≡ phase.Closed
-        → own ≡ messages_of hart (packets words plan.period plan.mode (events_of words plan hart sender.tracer.hart.given))
-    sent_closed is =
-        has.own_is
-        ∙ ap (messages_of hart) (subst (λ p. AreGiven words plan has.tracer.seen p has.given) is has.tracer.are_given)
-        ∙ ap (λ seen. messages_of hart (packets words plan.period plan.mode seen)) seen_is
+  -- A hart whose trace is closed sends nothing more.
+  pub sends_none : (stand : Stand) (sender : Sender) (old : Option (List ℕ)) → HasSent words plan hart stand sender
+      → sender.tracer.phase ≡ phase.Closed → Sends words plan hart stand (closes stand) sender old old
+  sends_none stand sender old has is_closed =
+      let closed : stand.is_closed ≡ true =
+      subst (λ p. IsIn words plan hart p sender.tracer.hart.given stand) is_closed has.tracer.is_in in
+      let same : stand ≡ closes stand = ap (λ b. record stand { is_closed = b }) closed in
+      let ps = given words plan hart stand in
+      let none : ps ≡ ps ++ [] = sym (append-nil ps) in
+      subst (λ next. Sends words plan hart stand next sender old old) same (record {
+        has = has;
+        packets = [];
+        longer = none;
+        text = subst (λ ms. Appends old old (capture ms)) (sym (between_is stand stand [] none)) (Appends-nil old);
+      })
 
-  -- What a hart of the plan may send.
-  module _ (counts : ℕ → ℕ) (hart : ℕ) where
-    open_is : hart < plan.harts
-        → open_messages words plan counts hart ≡ messages_of hart (known_packets words plan hart (counts hart))
-    open_is within =
-        ap (λ b. cond b (messages_of hart (known_packets words plan hart (counts hart))) [])
-        (lt-ltb hart plan.harts within)
+  -- A hart that closes its trace before its first turn opens it and then closes it.
+  module _ (stand : Stand) (fresh : stand ≡ unsent) (mid after : Sender) (old between new : Option (List ℕ)) where
+    abbrev first : Stand → List ℕ
+    first stand = capture (sent_between words plan hart stand (has_turn stand))
 
-    all_is : hart < plan.harts → all_messages words plan counts hart
-        ≡ messages_of hart (packets words plan.period plan.mode (events_of words plan hart (counts hart)))
-    all_is within =
-        ap (λ b. cond b
-        (messages_of hart (packets words plan.period plan.mode (events_of words plan hart (counts hart)))) [])
-        (lt-ltb hart plan.harts within)
+    abbrev second : Stand → List ℕ
+    second stand = capture (sent_between words plan hart (has_turn stand) (closes (has_turn stand)))
 
-    open_none : plan.harts ≤ hart → open_messages words plan counts hart ≡ []
-    open_none past =
-        ap (λ b. cond b (messages_of hart (known_packets words plan hart (counts hart))) [])
-        (le-ltb hart plan.harts past)
+    both : capture (sent_between words plan hart stand (closes stand)) ≡ first stand ++ second stand
+    both =
+        subst (λ s. capture (sent_between words plan hart s (closes s)) ≡ first s ++ second s) (sym fresh)
+        (ap capture between_first
+        ∙ capture-append (sent_between words plan hart unsent (has_turn unsent))
+        (sent_between words plan hart (has_turn unsent) (closes (has_turn unsent))))
 
-    all_none : plan.harts ≤ hart → all_messages words plan counts hart ≡ []
-    all_none past =
-        ap (λ b. cond b
-        (messages_of hart (packets words plan.period plan.mode (events_of words plan hart (counts hart)))) [])
-        (le-ltb hart plan.harts past)
-
-    -- Past all harts none closes its trace or sends.
-    pub closes_none : (messages : List Message) → plan.harts ≤ hart
-        → closes words plan counts (Some hart) messages ≡ messages ++ []
-    closes_none messages past =
-        ap (λ l. messages ++ drop (length (of_hart hart messages)) l) (all_none past)
-        ∙ ap (λ l. messages ++ l) (drop_none (length (of_hart hart messages)))
-
-    pub next_none : (messages : List Message) → plan.harts ≤ hart → of_hart hart messages ≡ []
-        → send_next words plan hart counts messages []
-    next_none messages past none = (
-      ap (λ l. messages ++ option_to_list (slice_get l (length (of_hart hart messages)))) (open_none past),
-      inr (inl (ap length none ∙ sym (ap length (all_none past)))),
-    )
-
-  -- A hart that closes its trace sends all that it has left.
-  module _ (hart : ℕ) (messages : List Message) (before after : Sender) (old new : Option (List ℕ))
-      (within : hart < plan.harts) (has : HasSent words plan hart (of_hart hart messages) before)
-      (s : SendsMore words plan hart (of_hart hart messages) after old new)
-      (closed : after.tracer.phase ≡ phase.Closed) (kept : after.tracer.hart ≡ before.tracer.hart) where
-    same_count : after.tracer.hart.given ≡ before.tracer.hart.given
-    same_count = ap (λ (h : Hart). h.given) kept
-
-    pub close_says : (counts : ℕ → ℕ) → MayEnd words plan hart after.tracer.phase after.tracer.hart.given (counts hart)
-        → close_one words plan (Some hart) counts messages s.more
-    close_says counts may =
-        let ends : counts hart ≡ after.tracer.hart.given =
-        subst (λ p. MayEnd words plan hart p after.tracer.hart.given (counts hart)) closed may in
-        let all : all_messages words plan counts hart ≡ of_hart hart messages ++ s.more =
-        all_is counts hart within
-        ∙ ap (λ n. messages_of hart (packets words plan.period plan.mode (events_of words plan hart n))) ends
-        ∙ sym (sent_closed hart (of_hart hart messages ++ s.more) after s.sent closed) in
-        ap (λ l. messages ++ drop (length (of_hart hart messages)) l) all
-        ∙ ap (λ l. messages ++ l) (drop_front (of_hart hart messages) s.more)
-
-    pub close_ends : (count : ℕ) → MayEnd words plan hart after.tracer.phase after.tracer.hart.given count
-        → MayEnd words plan hart before.tracer.phase before.tracer.hart.given count
-    close_ends count may =
-        let ends : count ≡ before.tracer.hart.given =
-        subst (λ p. MayEnd words plan hart p after.tracer.hart.given count) closed may ∙ same_count in
-        by before.tracer.phase ends
+    -- It ran no event.
+    ran_none : AreFewest words plan hart 1 after.tracer.hart.given → after.tracer.hart.given ≡ 0
+    ran_none fewest = go (cases_lt 0 after.tracer.hart.given)
       where
-        by : (p : Phase) → count ≡ before.tracer.hart.given
-            → MayEnd words plan hart p before.tracer.hart.given count
-        by phase.Fresh ends = tt
-        by phase.Open ends =
-            let short = has.tracer.walked.short in
-            let counted = has.tracer.walked.counted in record {
-              few = omega (arith, ends);
-              most = omega (arith, ends, short, counted);
-              rest = [];
-              parted = ap (λ n. messages_of hart (known_packets words plan hart n)) ends
-                  ∙ sym (append-nil (messages_of hart (known_packets words plan hart before.tracer.hart.given)));
-            }
-        by phase.Closed ends = ends
+        go : (0 < after.tracer.hart.given) ⊎ (after.tracer.hart.given ≤ 0) → after.tracer.hart.given ≡ 0
+        go (inl some) =
+            let one : length (known_packets words plan hart 0) ≡ 1 = ap length (known_first words plan hart) in
+            let none = fewest.fewer 0 some in
+            let never : ⊥ = omega (arith, one, none) in
+            absurd never
+        go (inr none) = omega (arith, none)
 
-  -- A hart sends its next message, if it has one.
-  module _ (hart : ℕ) (messages : List Message) (before after : Sender) (old new : Option (List ℕ))
-      (within : hart < plan.harts) (has : HasSent words plan hart (of_hart hart messages) before)
-      (s : SendsNext words plan hart (of_hart hart messages) before after old new) where
-    abbrev own : List Message
-    own = of_hart hart messages
-
-    opened_as : after.tracer.phase ≡ phase.Open
-        → own ++ s.sends.more ≡ messages_of hart (known_packets words plan hart after.tracer.hart.given)
-    opened_as is = sent_open hart (own ++ s.sends.more) after s.sends.sent is
-
-    -- What the hart sends while its trace is open.
-    next_open : (counts : ℕ → ℕ) → after.tracer.phase ≡ phase.Open
-        → GoesOn words plan hart after.tracer.hart.given (counts hart)
-        → send_next words plan hart counts messages s.sends.more
-    next_open counts is on = go s.sends.more (opened_as is) s.few s.spent
+    closed_too : HasSent words plan hart (closes (has_turn unsent)) after → HasSent words plan hart (closes unsent) after
+    closed_too has = record {
+      tracer = record {
+        seen = has.tracer.seen;
+        walked = has.tracer.walked;
+        stands = has.tracer.stands;
+        fewest = fewest_none words plan hart 0 after.tracer.hart.given (ran_none has.tracer.fewest) (omega arith);
+        is_in = in_phase after.tracer.phase has.tracer.is_in;
+      };
+      hart_is = has.hart_is;
+      number = has.number ∙ ap length (closed_second words plan hart);
+    }
       where
-        known : open_messages words plan counts hart
-            ≡ messages_of hart (known_packets words plan hart after.tracer.hart.given) ++ on.rest
-        known = open_is counts hart within ∙ on.parted
-
-        go : (more : List Message)
-            → own ++ more ≡ messages_of hart (known_packets words plan hart after.tracer.hart.given)
-            → length more ≤ 1
-            → (length more ≡ 0 → (after.tracer.phase ≡ phase.Closed) ⊎ (after.tracer.hart.given ≡ most_long_rows))
-            → send_next words plan hart counts messages more
-        go [] so few spent = ended (spent refl)
+        in_phase : (p : Phase) → IsIn words plan hart p after.tracer.hart.given (closes (has_turn unsent))
+            → IsIn words plan hart p after.tracer.hart.given (closes unsent)
+        in_phase phase.Fresh is = absurd (not_unsent is.1)
           where
-            ended : (after.tracer.phase ≡ phase.Closed) ⊎ (after.tracer.hart.given ≡ most_long_rows)
-                → send_next words plan hart counts messages []
-            ended (inl closed) = absurd (not_both (sym is ∙ closed))
-              where
-                not_both : phase.Open ≡ phase.Closed → ⊥
-                not_both e = cc
-            ended (inr all) =
-                let few = on.few in
-                let most = on.most in
-                let same : counts hart ≡ after.tracer.hart.given = omega (arith, few, most, all) in
-                let whole : open_messages words plan counts hart ≡ own =
-                open_is counts hart within
-                ∙ ap (λ n. messages_of hart (known_packets words plan hart n)) same ∙ sym so ∙ append-nil own in (
-                  ap (λ l. messages ++ option_to_list (slice_get l (length own))) whole
-                      ∙ ap (λ o. messages ++ option_to_list o) (slice_past own (length own) (omega arith)),
-                  inr (inr (same ∙ all)),
-                )
-        go (message ∷ []) so few spent =
-            let whole : open_messages words plan counts hart ≡ own ++ message ∷ on.rest =
-            known ∙ ap (λ l. l ++ on.rest) (sym so) ∙ append_assoc own (message ∷ []) on.rest in
-            let long = ap length whole ∙ length-append own (message ∷ on.rest) in (
-              ap (λ l. messages ++ option_to_list (slice_get l (length own))) whole
-                  ∙ ap (λ o. messages ++ option_to_list o) (slice_at own message on.rest),
-              inl (omega (arith, long)),
-            )
-        go (message ∷ other ∷ more) so few spent = absurd (omega (arith, few))
+            not_unsent : closes (has_turn unsent) ≡ unsent → ⊥
+            not_unsent e = let turns : 1 ≡ 0 = ap (λ (s : Stand). s.turns) e in omega (arith, turns)
+        in_phase phase.Open is = absurd (not_open is.0)
+          where
+            not_open : true ≡ false → ⊥
+            not_open e = cc
+        in_phase phase.Closed is = refl
 
-    -- What it sends where it is closed: nothing.
-    next_closed : (counts : ℕ → ℕ) → before.tracer.phase ≡ phase.Closed → length s.sends.more ≡ 0
-        → counts hart ≡ before.tracer.hart.given → send_next words plan hart counts messages s.sends.more
-    next_closed counts is none ends =
-        let nothing : s.sends.more ≡ [] = nil_from_length s.sends.more none in
-        let seen = has.tracer.seen in
-        let same : seen ≡ events_of words plan hart (counts hart) =
-        seen_is hart own before has ∙ ap (events_of words plan hart) (sym ends) in
-        let left = given_at_end before.tracer.encoder before.tracer.encoder.held in
-        let all : all_messages words plan counts hart ≡ own =
-        all_is counts hart within
-        ∙ ap (λ n. messages_of hart (packets words plan.period plan.mode (events_of words plan hart n))) ends
-        ∙ sym (sent_closed hart own before has is) in
-        let ended : packets words plan.period plan.mode seen ≡ packets_so_far words plan.period plan.mode seen ++ left =
-        ends_any words plan.period plan.mode seen before.tracer.encoder has.tracer.stands in
-        let count : length (packets words plan.period plan.mode seen)
-        ≡ length (packets_so_far words plan.period plan.mode seen) + length left =
-        ap length ended ∙ length-append (packets_so_far words plan.period plan.mode seen) left in
-        let mine : length own ≡ length (packets words plan.period plan.mode seen) =
-        ap length (sent_closed hart own before has is)
-        ∙ messages_of-length hart (packets words plan.period plan.mode (events_of words plan hart before.tracer.hart.given))
-        ∙ ap (λ l. length (packets words plan.period plan.mode l)) (sym (seen_is hart own before has)) in
-        let known : length (open_messages words plan counts hart)
-        ≡ length (packets_so_far words plan.period plan.mode seen) =
-        ap length (open_is counts hart within) ∙ messages_of-length hart (known_packets words plan hart (counts hart))
-        ∙ ap (λ l. length (packets_so_far words plan.period plan.mode l)) (sym same) in
-        subst (send_next words plan hart counts messages) (sym nothing) (
-          ap (λ o. messages ++ option_to_list o)
-              (slice_past (open_messages words plan counts hart) (length own) (omega (arith, count, mine, known))),
-          inr (inl (sym (ap length all))),
-        )
+    pub sends_both : {E : Type 0} (r : Result Unit E)
+        → Appends old between (first stand)
+        → OnOk r (Sends words plan hart (has_turn stand) (closes (has_turn stand)) after between new)
+        → OnOk r (Sends words plan hart stand (closes stand) after old new)
+    sends_both (Ok x) one two = record {
+      has = subst (λ s. HasSent words plan hart (closes s) after) (sym fresh)
+          (closed_too (subst (λ s. HasSent words plan hart (closes (has_turn s)) after) fresh two.has));
+      packets = given words plan hart (closes stand);
+      longer = sym (ap (λ l. l ++ given words plan hart (closes stand))
+          (ap (given words plan hart) fresh ∙ unsent_given words plan hart));
+      text = subst (Appends old new) (sym both)
+          (Appends-trans old between new (first stand) (second stand) one two.text);
+    }
+    sends_both (Err e) one two = tt
 
-    pub next_says : (counts : ℕ → ℕ) → MayEnd words plan hart after.tracer.phase after.tracer.hart.given (counts hart)
-        → send_next words plan hart counts messages s.sends.more
-    next_says counts may = by before.tracer.phase refl s.goes
-      where
-        by : (p : Phase) → before.tracer.phase ≡ p → GoesTo p before.tracer after.tracer (length s.sends.more)
-            → send_next words plan hart counts messages s.sends.more
-        by phase.Fresh is goes =
-            next_open counts goes (subst (λ p. MayEnd words plan hart p after.tracer.hart.given (counts hart)) goes may)
-        by phase.Open is goes =
-            next_open counts goes (subst (λ p. MayEnd words plan hart p after.tracer.hart.given (counts hart)) goes may)
-        by phase.Closed is goes =
-            let ends : counts hart ≡ after.tracer.hart.given =
-            subst (λ p. MayEnd words plan hart p after.tracer.hart.given (counts hart)) goes.0 may in
-            next_closed counts is goes.1 (ends ∙ goes.2)
+    -- A beginning of both is written.
+    pub first_begun : AppendsBeginning (first stand) old between
+        → AppendsBeginning (capture (sent_between words plan hart stand (closes stand))) old between
+    first_begun begun =
+        subst (λ text. AppendsBeginning text old between) (sym both)
+        (begun_in_front (first stand) (second stand) old between begun)
 
-    pub next_ends : (count : ℕ) → MayEnd words plan hart after.tracer.phase after.tracer.hart.given count
-        → MayEnd words plan hart before.tracer.phase before.tracer.hart.given count
-    next_ends count may = by before.tracer.phase refl s.goes
-      where
-        by : (p : Phase) → before.tracer.phase ≡ p → GoesTo p before.tracer after.tracer (length s.sends.more)
-            → MayEnd words plan hart p before.tracer.hart.given count
-        by phase.Fresh is goes = tt
-        by phase.Open is goes =
-            let on : GoesOn words plan hart after.tracer.hart.given count =
-            subst (λ p. MayEnd words plan hart p after.tracer.hart.given count) goes may in
-            let few = on.few in
-            let far = s.on in record {
-              few = omega (arith, few, far);
-              most = on.most;
-              rest = s.sends.more ++ on.rest;
-              parted = on.parted ∙ ap (λ l. l ++ on.rest)
-                  (sym (opened_as goes) ∙ ap (λ l. l ++ s.sends.more) (sent_open hart own before has is))
-                  ∙ append_assoc (messages_of hart (known_packets words plan hart before.tracer.hart.given)) s.sends.more
-                  on.rest;
-            }
-        by phase.Closed is goes =
-            subst (λ p. MayEnd words plan hart p after.tracer.hart.given count) goes.0 may ∙ goes.2
+    pub second_begun : Appends old between (first stand) → AppendsBeginning (second stand) between new
+        → AppendsBeginning (capture (sent_between words plan hart stand (closes stand))) old new
+    second_begun one begun =
+        subst (λ text. AppendsBeginning text old new) (sym both)
+        (begun_behind (first stand) (second stand) old between new one begun)
 
--- The same where writing may have failed.
-module _ {E : Type 0} (words : Words) (plan : Plan) (messages : List Message) (senders : List Sender) (hart : ℕ)
-    (before after : Sender) (old new : Option (List ℕ)) where
-  pub closes_on : (r : Result Unit E) → AreSent words plan messages senders → hart < length senders
-      → slice_get senders hart ≡ Some before
-      → ((own : List Message) → HasSent words plan hart own before
-      → OnOk r (SendsMore words plan hart own after old new))
-      → OnOk r (after.tracer.phase ≡ phase.Closed) → after.tracer.hart ≡ before.tracer.hart
-      → OnOk r (AllSendMore words plan (close_one words plan (Some hart)) messages senders (set senders hart after)
-      old new)
-  closes_on (Ok x) sent within at sends closed kept =
-      let has = sent.each hart before at in
-      let s = sends (of_hart hart messages) has in
-      let known : hart < plan.harts = omega (arith, within, sent.count) in
-      one_sends words plan (close_one words plan (Some hart)) messages senders hart before after old new sent within at s
-      (close_ends words plan hart messages before after old new known has s closed kept)
-      (close_says words plan hart messages before after old new known has s closed kept)
-  closes_on (Err e) sent within at sends closed kept = tt
+module _ (words : Words) (plan : Plan) where
+  -- One of the harts goes on.
+  module _ (on : Stand → Stand) (sent : Sent) (senders : List Sender) (hart : ℕ) (before after : Sender)
+      (old new : Option (List ℕ)) (are : AreSent words plan sent senders) (within : hart < length senders)
+      (at : slice_get senders hart ≡ Some before) where
+    abbrev stand : Stand
+    stand = get_or sent.stands hart unsent
 
-  pub next_on : (r : Result Unit E) → AreSent words plan messages senders → hart < length senders
-      → slice_get senders hart ≡ Some before
-      → ((own : List Message) → HasSent words plan hart own before
-      → OnOk r (SendsNext words plan hart own before after old new))
-      → OnOk r (AllSendMore words plan (send_next words plan hart) messages senders (set senders hart after) old new)
-  next_on (Ok x) sent within at sends =
-      let has = sent.each hart before at in
-      let s = sends (of_hart hart messages) has in
-      let known : hart < plan.harts = omega (arith, within, sent.count) in
-      one_sends words plan (send_next words plan hart) messages senders hart before after old new sent within at s.sends
-      (next_ends words plan hart messages before after old new known has s)
-      (next_says words plan hart messages before after old new known has s)
-  next_on (Err e) sent within at sends = tt
+    there : hart < length sent.stands
+    there = omega (arith, within, are.count)
+
+    stand_at : slice_get sent.stands hart ≡ Some stand
+    stand_at = slice_get-get_or sent.stands hart unsent there
+
+    has : HasSent words plan hart stand before
+    has = are.each hart before stand at stand_at
+
+    more_is : sent_by words plan on hart (slice_get sent.stands hart) ≡ sent_between words plan hart stand (on stand)
+    more_is = ap (sent_by words plan on hart) stand_at
+
+    -- A beginning of what it sends is written.
+    pub one_begun : ((stand : Stand) → HasSent words plan hart stand before
+        → AppendsBeginning (capture (sent_between words plan hart stand (on stand))) old new)
+        → AllBegun sent (goes words plan on hart sent) old new
+    one_begun begun = record {
+      grows = record { more = sent_by words plan on hart (slice_get sent.stands hart); parted = refl };
+      begun = subst (λ ms. AppendsBeginning (capture ms) old new) (sym more_is) (begun stand has);
+    }
+
+    module _ (s : Sends words plan hart stand (on stand) after old new) where
+      abbrev more : List Message
+      more = sent_by words plan on hart (slice_get sent.stands hart)
+
+      from_hart : more ≡ messages_from hart (length (given words plan hart stand)) (map payload_of s.packets)
+      from_hart = more_is ∙ between_is words plan hart stand (on stand) s.packets s.longer
+
+      own_here : of_hart hart (sent.messages ++ more) ≡ messages_of hart (given words plan hart (on stand))
+      own_here =
+          of_hart-append hart sent.messages more
+          ∙ ap (λ l. l ++ of_hart hart more) (are.own hart stand stand_at)
+          ∙ ap (λ l. messages_of hart (given words plan hart stand) ++ l)
+          (ap (of_hart hart) from_hart
+          ∙ of_hart-same hart (length (given words plan hart stand)) (map payload_of s.packets)
+          ∙ sym from_hart ∙ more_is)
+          ∙ sym (all_between words plan hart stand (on stand) s.packets s.longer)
+
+      own_there : (other : ℕ) → hart ≢ other → of_hart other (sent.messages ++ more) ≡ of_hart other sent.messages
+      own_there other apart =
+          of_hart-append other sent.messages more
+          ∙ ap (λ l. of_hart other sent.messages ++ l)
+          (ap (of_hart other) from_hart
+          ∙ of_hart-none other hart (length (given words plan hart stand)) (map payload_of s.packets)
+          (λ same. apart (sym same)))
+          ∙ append-nil (of_hart other sent.messages)
+
+      each : (other : ℕ) (sender : Sender) (its : Stand)
+          → ((hart ≡ other) × (sender ≡ after)) ⊎ ((hart ≢ other) × (slice_get senders other ≡ Some sender))
+          → ((hart ≡ other) × (its ≡ on stand)) ⊎ ((hart ≢ other) × (slice_get sent.stands other ≡ Some its))
+          → HasSent words plan other its sender
+      each other sender its (inl here) (inl stands) =
+          subst (λ h. HasSent words plan h its sender) here.0
+          (subst (λ x. HasSent words plan hart x sender) (sym stands.1)
+          (subst (HasSent words plan hart (on stand)) (sym here.1) s.has))
+      each other sender its (inl here) (inr stands) = absurd (stands.0 here.0)
+      each other sender its (inr away) (inl stands) = absurd (away.0 stands.0)
+      each other sender its (inr away) (inr stands) = are.each other sender its away.1 stands.1
+
+      own : (other : ℕ) (its : Stand)
+          → ((hart ≡ other) × (its ≡ on stand)) ⊎ ((hart ≢ other) × (slice_get sent.stands other ≡ Some its))
+          → of_hart other (sent.messages ++ more) ≡ messages_of other (given words plan other its)
+      own other its (inl here) =
+          subst (λ h. of_hart h (sent.messages ++ more) ≡ messages_of h (given words plan h its)) here.0
+          (own_here ∙ ap (λ x. messages_of hart (given words plan hart x)) (sym here.1))
+      own other its (inr away) = own_there other away.0 ∙ are.own other its away.1
+
+      one_goes : AllSend words plan sent (goes words plan on hart sent) (set senders hart after) old new
+      one_goes = record {
+        sent = record {
+          count = length-set senders hart after ∙ are.count ∙ sym (length-set sent.stands hart (on stand));
+          each = λ other sender its is stands.
+              each other sender its (slice_get-set senders hart after other sender is)
+              (slice_get-set sent.stands hart (on stand) other its stands);
+          own = λ other its is. own other its (slice_get-set sent.stands hart (on stand) other its is);
+          none = λ other past.
+              let long = length-set sent.stands hart (on stand) in
+              let apart : hart ≢ other = λ same. omega (arith, same, past, long, there) in
+              own_there other apart ∙ are.none other (omega (arith, past, long));
+        };
+        count = length-set sent.stands hart (on stand);
+        grows = record { more = more; parted = refl };
+        text = subst (λ ms. Appends old new (capture ms)) (sym more_is) s.text;
+      }
+
+    -- The same where writing may have failed.
+    pub one_goes_on : {E : Type 0} (r : Result Unit E) → ((stand : Stand) → HasSent words plan hart stand before
+        → OnOk r (Sends words plan hart stand (on stand) after old new))
+        → OnOk r (AllSend words plan sent (goes words plan on hart sent) (set senders hart after) old new)
+    one_goes_on (Ok x) s = one_goes (s stand has)
+    one_goes_on (Err e) s = tt
+
+  -- Past all harts none goes on.
+  pub goes_past : (on : Stand → Stand) (sent : Sent) (senders : List Sender) (hart : ℕ) (old : Option (List ℕ))
+      → AreSent words plan sent senders → length senders ≤ hart
+      → AllSend words plan sent (goes words plan on hart sent) senders old old
+  goes_past on sent senders hart old are past =
+      let out : length sent.stands ≤ hart = omega (arith, past, are.count) in
+      let nothing : sent_by words plan on hart (slice_get sent.stands hart) ≡ [] =
+      ap (sent_by words plan on hart) (slice_past sent.stands hart out) in
+      let stands : set sent.stands hart (on (get_or sent.stands hart unsent)) ≡ sent.stands =
+      set_past sent.stands hart (on (get_or sent.stands hart unsent)) out in
+      let messages : sent.messages ++ sent_by words plan on hart (slice_get sent.stands hart) ≡ sent.messages =
+      ap (λ l. sent.messages ++ l) nothing ∙ append-nil sent.messages in
+      let same : goes words plan on hart sent ≡ sent =
+      ap (λ l. record { messages = l; stands = set sent.stands hart (on (get_or sent.stands hart unsent)) }) messages
+      ∙ ap (λ l. record { messages = sent.messages; stands = l }) stands in record {
+        sent = subst (λ s. AreSent words plan s senders) (sym same) are;
+        count = ap length stands;
+        grows = record { more = []; parted = ap (λ l. sent.messages ++ l) nothing };
+        text = Appends-nil old;
+      }
+
+  -- Harts that are as far as they were.
+  pub all_stay : (sent : Sent) (senders : List Sender) (old : Option (List ℕ)) → AreSent words plan sent senders
+      → AllSend words plan sent sent senders old old
+  all_stay sent senders old are = record {
+    sent = are;
+    count = refl;
+    grows = record { more = []; parted = sym (append-nil sent.messages) };
+    text = Appends-nil old;
+  }
+
+  -- Harts go on twice.
+  pub all_both : (first mid last : Sent) (between senders : List Sender) (old then new : Option (List ℕ))
+      → AllSend words plan first mid between old then → AllSend words plan mid last senders then new
+      → AllSend words plan first last senders old new
+  all_both first mid last between senders old then new one two = record {
+    sent = two.sent;
+    count = two.count ∙ one.count;
+    grows = record {
+      more = one.grows.more ++ two.grows.more;
+      parted = two.grows.parted ∙ ap (λ l. l ++ two.grows.more) one.grows.parted
+          ∙ append_assoc first.messages one.grows.more two.grows.more;
+    };
+    text = subst (Appends old new) (sym (capture-append one.grows.more two.grows.more))
+        (Appends-trans old then new (capture one.grows.more) (capture two.grows.more) one.text two.text);
+  }
+
+  -- The second time a beginning is written.
+  pub all_then_begun : (first mid last : Sent) (between : List Sender) (old then new : Option (List ℕ))
+      → AllSend words plan first mid between old then → AllBegun mid last then new → AllBegun first last old new
+  all_then_begun first mid last between old then new one two = record {
+    grows = record {
+      more = one.grows.more ++ two.grows.more;
+      parted = two.grows.parted ∙ ap (λ l. l ++ two.grows.more) one.grows.parted
+          ∙ append_assoc first.messages one.grows.more two.grows.more;
+    };
+    begun = subst (λ text. AppendsBeginning text old new) (sym (capture-append one.grows.more two.grows.more))
+        (begun_behind (capture one.grows.more) (capture two.grows.more) old then new one.text two.begun);
+  }
+
+  -- What was written is a beginning too.
+  pub all_begun : (first last : Sent) (senders : List Sender) (old new : Option (List ℕ))
+      → AllSend words plan first last senders old new → AllBegun first last old new
+  all_begun first last senders old new one =
+      record { grows = one.grows; begun = whole_begun (capture one.grows.more) old new one.text }
+
+-- More messages come after what was begun.
+pub begun_longer : (first mid last : Sent) (old new : Option (List ℕ)) → AllBegun first mid old new
+    → Grows mid.messages last.messages → AllBegun first last old new
+begun_longer first mid last old new one grows = record {
+  grows = record {
+    more = one.grows.more ++ grows.more;
+    parted = grows.parted ∙ ap (λ l. l ++ grows.more) one.grows.parted
+        ∙ append_assoc first.messages one.grows.more grows.more;
+  };
+  begun = subst (λ text. AppendsBeginning text old new) (sym (capture-append one.grows.more grows.more))
+      (begun_in_front (capture one.grows.more) (capture grows.more) old new one.begun);
+}
 
 -- What is at a place of a list with one item more.
 at-snoc : {X : Type 0} (xs : List X) (y : X) (i : ℕ) (x : X) → slice_get (xs ++ y ∷ []) i ≡ Some x
@@ -733,12 +634,13 @@ at-snoc (a ∷ xs) y (suc i) x is = behind (at-snoc xs y i x is)
 -- So many harts have sent nothing.
 pub record HaveSentNone (words : Words) (plan : Plan) (harts : ℕ) (senders : List Sender) : Type 0 where
   pub count : length senders ≡ harts
-  pub each : (hart : ℕ) (sender : Sender) → slice_get senders hart ≡ Some sender → HasSent words plan hart [] sender
+  pub each : (hart : ℕ) (sender : Sender) → slice_get senders hart ≡ Some sender
+      → HasSent words plan hart unsent sender
 
 module _ (words : Words) (plan : Plan) where
   -- No hart has sent a message, since there is none.
-  pub none_sent : (senders : List Sender) → senders ≡ [] → HaveSentNone words plan 0 senders
-  none_sent senders is = record {
+  pub none_yet : (senders : List Sender) → senders ≡ [] → HaveSentNone words plan 0 senders
+  none_yet senders is = record {
     count = ap length is;
     each = λ hart sender at. absurd (never hart sender (ap (λ l. slice_get l hart) (sym is) ∙ at));
   }
@@ -747,10 +649,10 @@ module _ (words : Words) (plan : Plan) where
       never hart sender e = cc
 
   -- Nor has one more.
-  pub none_sent_more : (harts : ℕ) (senders after : List Sender) (sender : Sender) → after ≡ senders ++ sender ∷ []
-      → HaveSentNone words plan harts senders → HasSent words plan harts [] sender
+  pub none_yet_more : (harts : ℕ) (senders after : List Sender) (sender : Sender) → after ≡ senders ++ sender ∷ []
+      → HaveSentNone words plan harts senders → HasSent words plan harts unsent sender
       → HaveSentNone words plan (harts + 1) after
-  none_sent_more harts senders after sender is sent own = record {
+  none_yet_more harts senders after sender is sent own = record {
     count = ap length is ∙ length_push senders sender ∙ omega (arith, sent.count);
     each = λ hart found at. each hart found (at-snoc senders sender hart found (ap (λ l. slice_get l hart) (sym is)
         ∙ at));
@@ -758,17 +660,25 @@ module _ (words : Words) (plan : Plan) where
     where
       each : (hart : ℕ) (found : Sender)
           → (slice_get senders hart ≡ Some found) ⊎ ((hart ≡ length senders) × (found ≡ sender))
-          → HasSent words plan hart [] found
+          → HasSent words plan hart unsent found
       each hart found (inl at) = sent.each hart found at
       each hart found (inr last) =
           let here : harts ≡ hart = omega (arith, last.0, sent.count) in
-          subst (λ h. HasSent words plan h [] found) here
-          (subst (HasSent words plan harts []) (sym last.1) own)
+          subst (λ h. HasSent words plan h unsent found) here
+          (subst (HasSent words plan harts unsent) (sym last.1) own)
 
-  pub all_sent_none : (harts : ℕ) (senders : List Sender) → harts ≡ plan.harts → HaveSentNone words plan harts senders
-      → AreSent words plan [] senders
-  all_sent_none harts senders all sent =
-      record { count = sent.count ∙ all; each = sent.each; none = λ hart past. refl }
+  pub all_none : (harts : ℕ) (senders : List Sender) → HaveSentNone words plan harts senders
+      → AreSent words plan (none_sent harts) senders
+  all_none harts senders sent = record {
+    count = sent.count ∙ sym (length-replicate harts unsent);
+    each = λ hart sender stand at is.
+        subst (λ s. HasSent words plan hart s sender) (sym (replicated harts unsent hart stand is))
+        (sent.each hart sender at);
+    own = λ hart stand is.
+        sym (ap (messages_of hart)
+        (ap (given words plan hart) (replicated harts unsent hart stand is) ∙ unsent_given words plan hart));
+    none = λ hart past. refl;
+  }
 
 -- One of the harts has closed its trace.
 pub closed_here : (senders : List Sender) (hart : ℕ) (after : Sender) → after.tracer.phase ≡ phase.Closed
@@ -813,186 +723,28 @@ closed_more senders after place before others here hart below = go (cases_lt har
     go (inr over) =
         let same : place ≡ hart = omega (arith, over, below) in subst (λ h. IsClosed h after) same here
 
--- Turn after turn harts send.
-module _ (words : Words) (plan : Plan) (counts : ℕ → ℕ) (first : Drawn) where
-  pub turns_none : take_turns words plan first 0 first counts [] []
-  unfolding after_turns AreFull
-  turns_none = (refl, tt)
-
-  abbrev step : List Message × Drawn → List Message × Drawn
-  step before =
-      let next = next_turn before.1 in
-      (sends words plan counts next.0.hart (closes words plan counts next.0.closing before.0), next.1)
-
-  step_is : (count : ℕ) → step (after_turns words plan counts first count)
-      ≡ after_turns words plan counts first (suc count)
-  unfolding after_turns
-  step_is count = refl
-
-  abbrev has_next : List Message × Drawn → Type 0
-  has_next before =
-      let next = next_turn before.1 in
-      HasNext words plan counts next.0.hart (closes words plan counts next.0.closing before.0)
-
-  full_more : (count : ℕ) → AreFull words plan counts first count
-      → has_next (after_turns words plan counts first count) → AreFull words plan counts first (suc count)
-  unfolding AreFull
-  full_more count full next = (full, next)
-
-  -- A hart closes its trace after these turns.
-  pub closed_more_of : (count : ℕ) (drawn : Drawn) (hart : Option ℕ) (one two : List Message)
-      → take_turns words plan first count drawn counts [] one → close_one words plan hart counts one two
-      → turn_closed words plan first count drawn hart counts [] (one ++ two)
-  closed_more_of count drawn hart one two before closing = (
-    ap (λ (l : List Message × Drawn). closes words plan counts hart l.0) before.0 ∙ closing,
-    ap (λ (l : List Message × Drawn). l.1) before.0,
-    before.1,
-  )
-
-  -- And another sends.
-  pub turns_more : (count : ℕ) (drawn after : Drawn) (turn : Turn) (two three : List Message)
-      → (turn, after) ≡ next_turn drawn → turn_closed words plan first count drawn turn.closing counts [] two
-      → send_next words plan turn.hart counts two three
-      → take_turns words plan first (count + 1) after counts [] (two ++ three)
-  turns_more count drawn after turn two three next before sending =
-      subst (λ n. take_turns words plan first n after counts [] (two ++ three)) then (
-        sym (step_is count)
-            ∙ ap (λ (n : Turn × Drawn).
-            (sends words plan counts n.0.hart (closes words plan counts n.0.closing sent), n.1)) turn_is
-            ∙ ap (λ l. (sends words plan counts turn.hart l, after)) before.0 ∙ ap (λ l. (l, after)) sending.0,
-        full_more count before.2 (subst (λ (n : Turn × Drawn).
-            HasNext words plan counts n.0.hart (closes words plan counts n.0.closing sent)) (sym turn_is)
-            (subst (HasNext words plan counts turn.hart) (sym before.0) sending.1)),
-      )
-    where
-      sent : List Message
-      sent = (after_turns words plan counts first count).0
-
-      then : suc count ≡ count + 1
-      then = omega arith
-
-      turn_is : next_turn (after_turns words plan counts first count).1 ≡ (turn, after)
-      turn_is = ap next_turn before.1 ∙ sym next
-
--- Hart after hart closes its trace.
-module _ (words : Words) (plan : Plan) (counts : ℕ → ℕ) (messages : List Message) where
-  pub closing_none : close_all words plan 0 counts messages []
-  unfolding after_closing
-  closing_none = sym (append-nil messages)
-
-  closing_is : (count : ℕ) → closes words plan counts (Some count) (after_closing words plan counts messages count)
-      ≡ after_closing words plan counts messages (suc count)
-  unfolding after_closing
-  closing_is count = refl
-
-  pub closing_more : (count : ℕ) (one two : List Message) → close_all words plan count counts messages one
-      → close_one words plan (Some count) counts (messages ++ one) two
-      → close_all words plan (count + 1) counts messages (one ++ two)
-  closing_more count one two before closing =
-      let then : count + 1 ≡ suc count = omega arith in
-      ap (after_closing words plan counts messages) then ∙ sym (closing_is count)
-      ∙ ap (closes words plan counts (Some count)) before ∙ closing ∙ append_assoc messages one two
-
-module _ (program : Image) (image : IsImage program) (asked : Capture) where
-  abbrev words : Words
-  words = words_of program
-
-  abbrev plan : Plan
-  plan = plan_of program asked
-
-  -- How many events a hart has given, where there is one.
-  abbrev given_of : Option Sender → ℕ
-  given_of None = 0
-  given_of (Some sender) = sender.tracer.hart.given
-
-  -- A hart that has closed its trace has sent a log.
-  log_sent : (hart count : ℕ) (messages : List Message) (sender : Sender)
-      → HasSent words plan hart (of_hart hart messages) sender → sender.tracer.phase ≡ phase.Closed
-      → count ≡ sender.tracer.hart.given → SendsLog program asked hart count messages
-  log_sent hart count messages sender has closed is =
-      let walked = has.tracer.walked in
-      let seen = seen_is words plan hart (of_hart hart messages) sender has in
-      subst (λ n. SendsLog program asked hart n messages) (sym is) (record {
-        legal = subst (IsLegalUpTo most_long_rows program) seen (record {
-          legal = walked.legal;
-          short = walked.short;
-          numbers = walked.numbers;
-          image = image;
-        });
-        fewest = has.fewest;
-        own = sent_closed words plan hart (of_hart hart messages) sender has closed;
-      })
-
-  -- All harts have closed their traces: this is a capture in which they are mixed.
-  pub all_sent : (one two : List Message) (first mid senders : List Sender) (drawn : Drawn)
-      (old start between new : Option (List ℕ))
-      → AreSent words plan (one ++ two) senders
-      → ((hart : ℕ) → hart < length senders → IsClosed hart senders)
-      → ((counts : ℕ → ℕ) → MayAllEnd words plan counts senders
-      → take_turns words plan (first_order asked) asked.messages drawn counts [] one)
-      → ((counts : ℕ → ℕ) → MayAllEnd words plan counts senders
-      → close_all words plan (length senders) counts one two)
-      → Appends old start (start_bytes asked.version (header_of asked)) → Appends start new (capture (one ++ two))
-      → AppendsMixed program asked old new
-  all_sent one two first mid senders drawn old start between new sent closed turns closing begins text = record {
-    bytes = start_bytes asked.version (header_of asked) ++ capture (one ++ two);
-    mixed = record {
-      counts = counts;
-      messages = one ++ two;
-      each = λ hart below. each hart below (slice_get_cases senders hart).1;
-      none = sent.none;
-      turns = sym (ap (λ (l : List Message × Drawn). after_closing words plan counts l.0 asked.harts) (turns counts may).0
-          ∙ ap (after_closing words plan counts one) (sym sent.count) ∙ closing counts may);
-      full = (turns counts may).1;
-      whole = refl;
-    };
-    text = Appends-trans old start new (start_bytes asked.version (header_of asked)) (capture (one ++ two)) begins text;
-  }
-    where
-      counts : ℕ → ℕ
-      counts hart = given_of (slice_get senders hart)
-
-      within : (hart : ℕ) (sender : Sender) → slice_get senders hart ≡ Some sender → hart < length senders
-      within hart sender at = go (slice_get_cases senders hart).1
-        where
-          go : ((its : Sender) × (hart < length senders) × (slice_get senders hart ≡ Some its)
-              × (get_or senders hart its ≡ its))
-              ⊎ ((length senders ≤ hart) × (slice_get senders hart ≡ None)) → hart < length senders
-          go (inl is) = is.1
-          go (inr past) = absurd (never (sym past.1 ∙ at))
-            where
-              never : None ≡ Some sender → ⊥
-              never e = cc
-
-      may : MayAllEnd words plan counts senders
-      may hart sender at =
-          subst (λ p. MayEnd words plan hart p sender.tracer.hart.given (counts hart))
-          (sym (closed hart (within hart sender at) sender at)) (ap given_of at)
-
-      each : (hart : ℕ) → hart < asked.harts
-          → ((sender : Sender) × (hart < length senders) × (slice_get senders hart ≡ Some sender)
-          × (get_or senders hart sender ≡ sender))
-          ⊎ ((length senders ≤ hart) × (slice_get senders hart ≡ None))
-          → SendsLog program asked hart (counts hart) (one ++ two)
-      each hart below (inl at) =
-          log_sent hart (counts hart) (one ++ two) at.0 (sent.each hart at.0 at.2) (closed hart at.1 at.0 at.2)
-          (ap given_of at.2)
-      each hart below (inr past) =
-          let never : ⊥ = omega (arith, past.0, below, sent.count) in absurd never
-
-  -- The harts send messages after the header, and then all close their traces.
-  pub sent_to_end : {E : Type 0} (drawn : Drawn) (first mid after : List Sender)
-      (old start between new : Option (List ℕ)) (r : Result Unit E)
-      → Appends old start (start_bytes asked.version (header_of asked))
-      → AllSendMore words plan (take_turns words plan (first_order asked) asked.messages drawn) [] first mid start between
-      → ((messages : List Message) → AreSent words plan messages mid
-      → OnOk r (AllSendMore words plan (close_all words plan (length after)) messages mid after between new))
-      → ((hart : ℕ) → hart < length after → OnOk r (IsClosed hart after))
-      → OnOk r (AppendsMixed program asked old new)
-  sent_to_end drawn first mid after old start between new (Ok x) begins one two closed =
-      let last = two one.more one.sent in
-      all_sent one.more last.more first mid after drawn old start between new last.sent closed
-      (λ counts may. one.said counts (last.may_end counts may)) last.said begins
-      (subst (Appends start new) (sym (capture-append one.more last.more))
-      (Appends-trans start between new (capture one.more) (capture last.more) one.text last.text))
-  sent_to_end drawn first mid after old start between new (Err e) begins one two closed = tt
+-- A hart that has closed its trace has sent a log.
+pub log_sent : (program : Image) → IsImage program → (asked : Capture) (hart count : ℕ) (messages : List Message)
+    (stand : Stand) (sender : Sender) → HasSent (words_of program) (plan_of program asked) hart stand sender
+    → sender.tracer.phase ≡ phase.Closed
+    → of_hart hart messages ≡ messages_of hart (given (words_of program) (plan_of program asked) hart stand)
+    → count ≡ sender.tracer.hart.given → SendsLog program asked hart count messages
+log_sent program image asked hart count messages stand sender has is_closed own is =
+    let words = words_of program in
+    let plan = plan_of program asked in
+    let walked = has.tracer.walked in
+    let few = walked.short in
+    let counted = walked.counted in
+    let closed : stand.is_closed ≡ true =
+    subst (λ p. IsIn words plan hart p sender.tracer.hart.given stand) is_closed has.tracer.is_in in
+    let seen = ap (λ (w : List Event × Walk). w.0) walked.walked in
+    subst (λ n. SendsLog program asked hart n messages) (sym is) (record {
+      legal = subst (IsLegalUpTo most_long_rows program) seen (record {
+        legal = walked.legal;
+        short = few;
+        numbers = walked.numbers;
+        image = image;
+      });
+      own = own ∙ ap (messages_of hart) (closed_given words plan hart stand sender.tracer.hart.given
+          (omega (arith, few, counted)) has.tracer.fewest closed);
+    })

@@ -1,54 +1,61 @@
 -- What one turn sends, and what is left then.
-use Rattle.std.proofs.Common.{◌≡◌, ◌∙◌, ◌++◌, ◌<◌, ◌≤◌, All, ap, append-nil, arith, refl, subst, sym, ℕ, zero, suc, true, false}
+use Rattle.std.proofs.Common.{◌≡◌, ◌∙◌, ◌++◌, ◌≤◌, ap, append-nil, arith, refl, subst, sym, ℕ, zero, suc, true, false}
 use Rattle.std.proofs.Common.{if◌then◌else◌, slice_get}
-use Rattle.std.proofs.Common.{List, [], ◌∷◌, Option, Some, None, eqb, get_or, length, map, set}
+use Rattle.std.proofs.Common.{List, [], ◌∷◌, Option, Some, None, eqb, get_or, length, set}
 use Rattle.std.proofs.KnownBytes.{Appends-nil}
 use Rattle.std.proofs.lemmas.Grind.{flat_map-append}
-use Rattle.std.proofs.lemmas.List.{get_or-map, length-map, map-set}
-use Rattle.std.proofs.lemmas.Option.{same_Some, slice_get-get_or}
-use Rattle.std.proofs.lemmas.List.Elements.{All-head, All-nil, All-set, All-tail}
+use Rattle.std.proofs.lemmas.Option.{same_Some}
 use Rattle.std.specs.Io.KnownBytes.{Appends}
 use Rattle.std.specs.List.{flat_map}
-use Rattle.message.specs.Capture.{capture}
-use Rattle.message.specs.Cut.{IsMessage}
 use Rattle.message.specs.declared.message.Message.{Message}
 use Rattle.output.proofs.FieldParts.{HasWritten, part_begun, part_more}
 use Rattle.output.specs.Begun.{AppendsBeginning}
-use Rattle.stimulus.specs.Mixing.{IsMixing, Mixed, all_left, mixed_by, mixed_from, most_turns, sends, turn, unmixed}
+use Rattle.stimulus.specs.Mixing.{AllAreInFront, AreInFront, IsMixing, Mixed, all_left, mixed_by, mixed_from, most_turns}
+use Rattle.stimulus.specs.Mixing.{sends, turn, unmixed}
 use Rattle.stimulus.specs.Order.{Drawn, drawn_of, leaves, next_turn}
 use Rattle.stimulus.specs.steps.Drawing.{TakesFirst, TakesNext, WritesTurns}
 use Rattle.stimulus.specs.declared.mixing.Mixing.{Mixing}
 use Rattle.stimulus.specs.declared.order.Turn.{Turn}
-use Rattle.stimulus.proofs.LeftMessages.{some_none, some_or}
-
--- The messages of a hart are within their ranges, where those of all are.
-own_ranges : (place : ℕ) (left : List (List Message)) → All (All IsMessage) left → All IsMessage (get_or left place [])
-own_ranges zero [] all = All-nil IsMessage
-own_ranges (suc place) [] all = All-nil IsMessage
-own_ranges zero (own ∷ left) all = All-head (All IsMessage) own left all
-own_ranges (suc place) (own ∷ left) all = own_ranges place left (All-tail (All IsMessage) own left all)
+use Rattle.stimulus.proofs.LeftMessages.{fronts_long, some_none, some_or}
 
 -- Where a hart has none, nothing changes with them.
-none_changes : (place : ℕ) (left : List (List Message)) → get_or left place [] ≡ []
-    → set (map capture left) place [] ≡ map capture left
+none_changes : (place : ℕ) (left : List (List Message)) → get_or left place [] ≡ [] → set left place [] ≡ left
 none_changes zero [] is = refl
 none_changes (suc place) [] is = refl
-none_changes zero (own ∷ left) is = ap (λ (own : List Message). capture own ∷ map capture left) (sym is)
-none_changes (suc place) (own ∷ left) is = ap (λ l. capture own ∷ l) (none_changes place left is)
+none_changes zero (own ∷ left) is = ap (λ (own : List Message). own ∷ left) (sym is)
+none_changes (suc place) (own ∷ left) is = ap (λ l. own ∷ l) (none_changes place left is)
+
+-- The bytes of a hart begin with its messages.
+front_at : (left : List (List Message)) (bytes : List (List ℕ)) (place : ℕ) (own : List ℕ) → AllAreInFront left bytes
+    → slice_get bytes place ≡ Some own → AreInFront (get_or left place []) own
+front_at [] [] place own fronts at = cc
+front_at [] (first ∷ bytes) place own fronts at = elim fronts [ ]
+front_at (messages ∷ left) [] place own fronts at = elim fronts [ ]
+front_at (messages ∷ left) (first ∷ bytes) zero own fronts at =
+    subst (AreInFront messages) (same_Some first own at) fronts.0
+front_at (messages ∷ left) (first ∷ bytes) (suc place) own fronts at = front_at left bytes place own fronts.1 at
+
+-- Other bytes begin with other messages.
+fronts_set : (left : List (List Message)) (bytes : List (List ℕ)) (place : ℕ) (rest : List Message) (new : List ℕ)
+    → AllAreInFront left bytes → AreInFront rest new → AllAreInFront (set left place rest) (set bytes place new)
+fronts_set [] [] place rest new fronts front = tt
+fronts_set [] (first ∷ bytes) place rest new fronts front = elim fronts [ ]
+fronts_set (messages ∷ left) [] place rest new fronts front = elim fronts [ ]
+fronts_set (messages ∷ left) (first ∷ bytes) zero rest new fronts front = (front, fronts.1)
+fronts_set (messages ∷ left) (first ∷ bytes) (suc place) rest new fronts front =
+    (fronts.0, fronts_set left bytes place rest new fronts.1 front)
 
 -- The first message of a hart is taken, and the others stay.
 pub first_taken : (left : List (List Message)) (place : ℕ) (own : List Message) (taken : Option Message)
-    (bytes : List (List ℕ)) (new : List ℕ) → bytes ≡ map capture left → get_or left place [] ≡ own
+    (bytes : List (List ℕ)) (new : List ℕ) → AllAreInFront left bytes → get_or left place [] ≡ own
     → TakesNext own taken new → TakesFirst left place own taken (set bytes place new)
-first_taken left place [] taken bytes new is at takes = (
+first_taken left place [] taken bytes new fronts at takes = (
   takes.0,
-  ap (λ l. set l place new) is ∙ ap (λ n. set (map capture left) place n) takes.1 ∙ none_changes place left at,
+  subst (λ l. AllAreInFront l (set bytes place new)) (none_changes place left at)
+      (fronts_set left bytes place [] new fronts takes.1),
 )
-first_taken left place (message ∷ rest) taken bytes new is at takes = (
-  takes.0,
-  ap (λ l. set l place new) is ∙ ap (λ n. set (map capture left) place n) takes.1
-      ∙ sym (map-set capture left place rest),
-)
+first_taken left place (message ∷ rest) taken bytes new fronts at takes =
+    (takes.0, fronts_set left bytes place rest new fronts takes.1)
 
 -- Past all harts there is none.
 none_past : (place : ℕ) (left : List (List Message)) → length left ≤ place → get_or left place [] ≡ []
@@ -57,34 +64,28 @@ none_past (suc place) [] past = refl
 none_past zero (own ∷ left) past = absurd (omega (arith, past))
 none_past (suc place) (own ∷ left) past = none_past place left (omega (arith, past))
 
-pub none_taken : (left : List (List Message)) (place : ℕ) (bytes : List (List ℕ)) → bytes ≡ map capture left
+pub none_taken : (left : List (List Message)) (place : ℕ) (bytes : List (List ℕ)) → AllAreInFront left bytes
     → length bytes ≤ place → TakesFirst left place (get_or left place []) None bytes
-none_taken left place bytes is past =
-    let count : length bytes ≡ length left = ap length is ∙ length-map left capture in
+none_taken left place bytes fronts past =
+    let count = fronts_long left bytes fronts in
     subst (λ own. TakesFirst left place own None bytes) (sym (none_past place left (omega (arith, count, past))))
-    (refl, is)
+    (refl, fronts)
 
 -- The hart at a place takes the first of its messages.
 pub one_taken : (left : List (List Message)) (place : ℕ) (bytes : List (List ℕ)) (own new : List ℕ)
-    (taken : Option Message) → bytes ≡ map capture left → All (All IsMessage) left → place < length bytes
-    → slice_get bytes place ≡ Some own
-    → ((messages : List Message) → own ≡ capture messages → All IsMessage messages → TakesNext messages taken new)
+    (taken : Option Message) → AllAreInFront left bytes → slice_get bytes place ≡ Some own
+    → ((messages : List Message) → AreInFront messages own → TakesNext messages taken new)
     → TakesFirst left place (get_or left place []) taken (set bytes place new)
-one_taken left place bytes own new taken is ranges within at takes =
-    let count : length bytes ≡ length left = ap length is ∙ length-map left capture in
-    let own_is : own ≡ capture (get_or left place []) =
-    same_Some own (get_or bytes place []) (sym at ∙ slice_get-get_or bytes place [] within)
-    ∙ ap (λ l. get_or l place []) is ∙ get_or-map capture left place [] [] (omega (arith, count, within)) in
-    first_taken left place (get_or left place []) taken bytes new is refl
-    (takes (get_or left place []) own_is (own_ranges place left ranges))
+one_taken left place bytes own new taken fronts at takes =
+    first_taken left place (get_or left place []) taken bytes new fronts refl
+    (takes (get_or left place []) (front_at left bytes place own fronts at))
 
 -- What was sent, how far the order is drawn, and what is left.
 pub record Turned (sent : List Message) (drawn : Drawn) (bytes : List (List ℕ)) (out : List Message × Mixed) : Type 0
   where
     pub sent_is : out.0 ≡ sent
     pub drawn_is : out.1.drawn ≡ drawn
-    pub left : bytes ≡ map capture out.1.left
-    pub ranges : All (All IsMessage) out.1.left
+    pub left : AllAreInFront out.1.left bytes
 
 module _ (mixed : Mixed) where
   abbrev by_next : Turn × Drawn → List Message × Mixed
@@ -94,22 +95,17 @@ module _ (mixed : Mixed) where
   unfolding turn
   turn_is next is = ap by_next is
 
-  module _ (hart : ℕ) (drawn : Drawn) (bytes : List (List ℕ)) (ranges : All (All IsMessage) mixed.left) where
-    some_sent : (message : Message) (own : List Message) → All IsMessage own
-        → TakesFirst mixed.left hart own (Some message) bytes
+  module _ (hart : ℕ) (drawn : Drawn) (bytes : List (List ℕ)) where
+    some_sent : (message : Message) (own : List Message) → TakesFirst mixed.left hart own (Some message) bytes
         → Turned (message ∷ []) drawn bytes (sends hart (record mixed { drawn = drawn }) own)
-    some_sent message [] all takes = absurd (some_none message takes.0)
-    some_sent message (first ∷ rest) all takes =
-        let same : first ≡ message = ap (some_or first) (sym takes.0) in record {
-          sent_is = ap (λ m. m ∷ []) same;
-          drawn_is = refl;
-          left = takes.1;
-          ranges = All-set (All IsMessage) mixed.left hart rest (All-tail IsMessage first rest all) ranges;
-        }
+    some_sent message [] takes = absurd (some_none message takes.0)
+    some_sent message (first ∷ rest) takes =
+        let same : first ≡ message = ap (some_or first) (sym takes.0) in
+        record { sent_is = ap (λ m. m ∷ []) same; drawn_is = refl; left = takes.1 }
 
     none_sent : (own : List Message) → TakesFirst mixed.left hart own None bytes
         → Turned [] (leaves hart drawn) bytes (sends hart (record mixed { drawn = drawn }) own)
-    none_sent [] takes = record { sent_is = refl; drawn_is = refl; left = takes.1; ranges = ranges }
+    none_sent [] takes = record { sent_is = refl; drawn_is = refl; left = takes.1 }
     none_sent (first ∷ rest) takes = absurd (some_none first (sym takes.0))
 
   module _ {A : Type 0} (mixing : Mixing A) (is : IsMixing mixed mixing) (now : Turn) (drawn : Drawn)
@@ -123,21 +119,20 @@ module _ (mixed : Mixed) where
         → Turned (message ∷ []) drawn bytes (turn mixed)
     turned_some message takes =
         subst (Turned (message ∷ []) drawn bytes) (sym same)
-        (some_sent now.hart drawn bytes is.ranges message (get_or mixed.left now.hart [])
-        (own_ranges now.hart mixed.left is.ranges) takes)
+        (some_sent now.hart drawn bytes message (get_or mixed.left now.hart []) takes)
 
     -- It had none, and leaves.
     pub turned_none : TakesFirst mixed.left now.hart (get_or mixed.left now.hart []) None bytes
         → Turned [] (leaves now.hart drawn) bytes (turn mixed)
     turned_none takes =
         subst (Turned [] (leaves now.hart drawn) bytes) (sym same)
-        (none_sent now.hart drawn bytes is.ranges (get_or mixed.left now.hart []) takes)
+        (none_sent now.hart drawn bytes (get_or mixed.left now.hart []) takes)
 
 -- So the messages are mixed that far.
 pub turned_mixing : {A : Type 0} (sent : List Message) (drawn : Drawn) (out : List Message × Mixed) (mixing : Mixing A)
     → drawn_of mixing.order ≡ drawn → Turned sent drawn mixing.left.items out → IsMixing out.1 mixing
 turned_mixing sent drawn out mixing is turned =
-    record { drawn = is ∙ sym turned.drawn_is; left = turned.left; ranges = turned.ranges }
+    record { drawn = is ∙ sym turned.drawn_is; left = turned.left }
 
 -- A message is written.
 pub turned_text : (text : Message → List ℕ) (message : Message) (drawn : Drawn) (bytes : List (List ℕ))

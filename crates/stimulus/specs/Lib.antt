@@ -2,6 +2,7 @@ pub mod Mix
 pub mod Slot
 pub mod ImageBytes
 pub mod Walk
+pub mod WalkKept
 pub mod Walked
 pub mod Written
 pub mod Order

@@ -1,8 +1,7 @@
 -- Captures in which the messages of harts are mixed.
-use Rattle.std.specs.Prelude.{◌≡◌, ◌⊎◌, ◌<◌, ◌≤◌, ◌/◌, ◌++◌, ℕ, zero, suc, List, [], Option, Some, None, drop, length, map}
-use Rattle.std.specs.Prelude.{max, min, nat_lt, if◌then◌else◌, option_to_list, slice_get}
+use Rattle.std.specs.Prelude.{◌≡◌, ◌<◌, ◌≤◌, ◌+◌, ◌*◌, ◌/◌, ◌++◌, ℕ, zero, suc, Bool, true, false, List, [], Option, Some, None}
+use Rattle.std.specs.Prelude.{drop, get_or, if◌then◌else◌, length, map, max, min, nat_lt, replicate, set, slice_get, take}
 use Rattle.std.specs.Io.KnownBytes.{Appends}
-use Rattle.output.specs.Begun.{AppendsBeginning}
 use Rattle.retire.specs.Log.{most_long_rows}
 use Rattle.retire.specs.declared.event.Event.{Event}
 use Rattle.rvclass.specs.Fetch.{words_of}
@@ -27,11 +26,10 @@ use Rattle.stimulus.specs.Walk.{extent_of, first_walk, walked}
 use Rattle.stimulus.specs.declared.capturing.Capture.{Capture}
 use Rattle.stimulus.specs.declared.walk.Walk.{Walk}
 
--- How the harts of a capture trace: at this period and in this mode, so many harts, each on a walk that begins so.
+-- How the harts of a capture trace: at this period and in this mode, each on a walk that begins so.
 pub record Plan : Type 0 where
   pub period : ℕ
   pub mode : Mode
-  pub harts : ℕ
   pub start : ℕ → Walk
 
 -- The plan of a capture.
@@ -39,7 +37,6 @@ abbrev pub plan_of : Image → Capture → Plan
 plan_of program asked = record {
   period = asked.period;
   mode = asked.mode;
-  harts = asked.harts;
   start = λ hart. first_walk (extent_of program) asked.mix asked.seed hart;
 }
 
@@ -55,97 +52,134 @@ events_of words plan hart count = (walked words (plan.start hart) count).0
 abbrev pub known_packets : Words → Plan → ℕ → ℕ → List Packet
 known_packets words plan hart count = packets_so_far words plan.period plan.mode (events_of words plan hart count)
 
+-- The fewest events after which so many packets of a hart are known, or the most events, where never so many are.
+unfoldable pub fewest_up_to : ℕ → Words → Plan → ℕ → ℕ → ℕ
+fewest_up_to zero words plan hart count = 0
+fewest_up_to (suc most) words plan hart count =
+    let fewest = fewest_up_to most words plan hart count in
+    if nat_lt (length (known_packets words plan hart fewest)) count then suc most else fewest
+
+-- How many events a hart runs for so many turns: the fewest after which as many packets are known, at most 4,294,967,295.
+unfoldable pub events_for : Words → Plan → ℕ → ℕ → ℕ
+events_for words plan hart turns = fewest_up_to most_long_rows words plan hart turns
+
+-- How far a hart is: how many turns it had before it closed its trace, and whether it closed it.
+pub record Stand : Type 0 where
+  pub turns : ℕ
+  pub is_closed : Bool
+
+-- A hart that had no turn.
+abbrev pub unsent : Stand
+unsent = record { turns = 0; is_closed = false }
+
+-- A hart has a turn, which counts while its trace is open.
+abbrev pub has_turn : Stand → Stand
+has_turn stand = record stand { turns = if stand.is_closed then stand.turns else stand.turns + 1 }
+
+-- A hart closes its trace.
+abbrev pub closes : Stand → Stand
+closes stand = record stand { is_closed = true }
+
+-- The packets that a hart has given: while its trace is open a packet for each turn, of those that are known after the
+-- events that it has run; then all of the log of these events.
+abbrev pub given_by : Bool → Words → Plan → ℕ → ℕ → List Packet
+given_by false words plan hart turns =
+    take turns (known_packets words plan hart (events_for words plan hart turns))
+given_by true words plan hart turns =
+    packets words plan.period plan.mode (events_of words plan hart (events_for words plan hart turns))
+
+unfoldable pub given : Words → Plan → ℕ → Stand → List Packet
+given words plan hart stand = given_by stand.is_closed words plan hart stand.turns
+
 -- The messages of packets of a hart, numbered from 0.
 abbrev pub messages_of : ℕ → List Packet → List Message
 messages_of hart ps = messages_from hart 0 (map payload_of ps)
 
--- The events are the fewest after which so many packets are known, unless they are 4,294,967,295.
-abbrev pub AreFewest : Words → Plan → ℕ → ℕ → Type 0
-AreFewest words plan hart count =
-    (count ≡ most_long_rows)
-    ⊎ ((fewer : ℕ) → fewer < count
-    → length (known_packets words plan hart fewer) < length (known_packets words plan hart count))
+-- The messages that a hart sends between one stand and the next: those of the packets that it has given more.
+abbrev pub sent_between : Words → Plan → ℕ → Stand → Stand → List Message
+sent_between words plan hart stand next =
+    drop (length (given words plan hart stand)) (messages_of hart (given words plan hart next))
 
--- The messages that each hart sends while its trace is open, and all of its messages, where it has so many events. There
--- are so many harts.
-abbrev pub open_messages : Words → Plan → (ℕ → ℕ) → ℕ → List Message
-open_messages words plan counts hart =
-    if nat_lt hart plan.harts then messages_of hart (known_packets words plan hart (counts hart)) else []
+-- What was sent, and how far each hart is, by its place.
+pub record Sent : Type 0 where
+  pub messages : List Message
+  pub stands : List Stand
 
-abbrev pub all_messages : Words → Plan → (ℕ → ℕ) → ℕ → List Message
-all_messages words plan counts hart =
-    if nat_lt hart plan.harts
-    then messages_of hart (packets words plan.period plan.mode (events_of words plan hart (counts hart))) else []
+module _ (words : Words) (plan : Plan) where
+  -- What the hart at a place sends where it goes on so. Where there is none, no message comes.
+  abbrev pub sent_by : (Stand → Stand) → ℕ → Option Stand → List Message
+  sent_by on hart None = []
+  sent_by on hart (Some stand) = sent_between words plan hart stand (on stand)
 
-module _ (words : Words) (plan : Plan) (counts : ℕ → ℕ) where
-  -- After these messages a hart closes its trace: all that it has left comes.
-  abbrev pub closes : Option ℕ → List Message → List Message
-  closes None sent = sent
-  closes (Some hart) sent = sent ++ drop (length (of_hart hart sent)) (all_messages words plan counts hart)
+  -- The hart at a place goes on so.
+  abbrev pub goes : (Stand → Stand) → ℕ → Sent → Sent
+  goes on hart sent = record {
+    messages = sent.messages ++ sent_by on hart (slice_get sent.stands hart);
+    stands = set sent.stands hart (on (get_or sent.stands hart unsent));
+  }
 
-  -- After these messages a hart sends its next, if its trace is open and it has one.
-  abbrev pub sends : ℕ → List Message → List Message
-  sends hart sent =
-      sent ++ option_to_list (slice_get (open_messages words plan counts hart) (length (of_hart hart sent)))
+  -- A hart closes its trace, if one is given.
+  abbrev pub closes_one : Option ℕ → Sent → Sent
+  closes_one None sent = sent
+  closes_one (Some hart) sent = goes closes hart sent
 
-  -- A hart has one to send, unless it has closed its trace or has no event more.
-  abbrev pub HasNext : ℕ → List Message → Type 0
-  HasNext hart sent =
-      (length (of_hart hart sent) < length (open_messages words plan counts hart))
-      ⊎ (length (of_hart hart sent) ≡ length (all_messages words plan counts hart))
-      ⊎ (counts hart ≡ most_long_rows)
-
-  -- The messages after the first turns of an order, so many, and how far the order is drawn then.
-  unfoldable pub after_turns : Drawn → ℕ → List Message × Drawn
-  after_turns first zero = ([], first)
+  -- After the first turns of an order, so many, and how far the order is drawn then.
+  unfoldable pub after_turns : Sent × Drawn → ℕ → Sent × Drawn
+  after_turns first zero = first
   after_turns first (suc count) =
       let before = after_turns first count in
       let next = next_turn before.1 in
-      (sends next.0.hart (closes next.0.closing before.0), next.1)
+      (goes has_turn next.0.hart (closes_one next.0.closing before.0), next.1)
 
-  -- In each of the first turns the hart has a message to send.
-  unfoldable pub AreFull : Drawn → ℕ → Type 0
-  AreFull first zero = Unit {0}
-  AreFull first (suc count) =
-      let before = after_turns first count in
-      let next = next_turn before.1 in
-      AreFull first count × HasNext next.0.hart (closes next.0.closing before.0)
-
-  -- After these messages the first harts, so many, close their traces.
-  unfoldable pub after_closing : List Message → ℕ → List Message
+  -- After the first harts, so many, have closed their traces.
+  unfoldable pub after_closing : Sent → ℕ → Sent
   after_closing sent zero = sent
-  after_closing sent (suc count) = closes (Some count) (after_closing sent count)
+  after_closing sent (suc count) = goes closes count (after_closing sent count)
 
--- Of so many bursts one ends a trace: of a sixteenth of the turns, and of 256 at least.
-abbrev pub ending_of : ℕ → ℕ
-ending_of messages = max 256 (min (messages / 16) 4294967295)
+-- Of so many bursts one ends a trace, as long as harts may end theirs. A burst has half of one turn more than the longest
+-- on average, so an end comes after about as many turns as each hart has, whatever the longest burst is.
+abbrev pub ending_of : Capture → ℕ
+ending_of asked =
+    max 1 (min (asked.messages / max 1 (asked.harts * (asked.burst + 1) / 2)) 4294967295)
 
--- The order of a capture before its first turn.
+-- The order of a capture before its first turn. Half of the harts, rounded down, may end their traces before the last.
 abbrev pub first_order : Capture → Drawn
-first_order asked = first_drawn asked.seed asked.harts asked.burst (Some (ending_of asked.messages))
+first_order asked = first_drawn asked.seed asked.harts asked.burst (ending_of asked) (asked.harts / 2)
+
+-- Of so many harts none has sent a message.
+abbrev pub none_sent : ℕ → Sent
+none_sent harts = record { messages = []; stands = replicate harts unsent }
+
+-- The messages of a capture: those of the turns that are asked for, and then those with which harts close their traces,
+-- hart after hart.
+unfoldable pub mixed_messages : Image → Capture → List Message
+mixed_messages program asked =
+    let words = words_of program in
+    let plan = plan_of program asked in
+    (after_closing words plan (after_turns words plan (none_sent asked.harts, first_order asked) asked.messages).0
+    asked.harts).messages
+
+-- The bytes of a capture: a header, in version 2, and the messages.
+abbrev pub mixed_capture : Image → Capture → List ℕ
+mixed_capture program asked =
+    start_bytes asked.version (header_of asked) ++ capture (mixed_messages program asked)
 
 -- A hart's messages among these are those of all packets of its log, each once, in order, numbered from 0. The log has
 -- so many events and is legal for the program.
 pub record SendsLog (program : Image) (asked : Capture) (hart count : ℕ) (messages : List Message) : Type 0 where
   pub legal : IsLegalUpTo most_long_rows program (events_of (words_of program) (plan_of program asked) hart count)
-  pub fewest : AreFewest (words_of program) (plan_of program asked) hart count
   pub own : of_hart hart messages
       ≡ messages_from hart 0 (payloads asked.period asked.mode
       (program_log program (events_of (words_of program) (plan_of program asked) hart count)))
 
--- The bytes are a header, in version 2, and the messages that are asked for. Each of so many harts sends a log among
--- them, and no other hart has a message. As many turns are drawn as messages are asked for, and in each a hart sends
--- one; before and after them come those with which harts close their traces.
+-- The bytes are the capture that is asked for. Each of so many harts sends a log in it, and no other hart has a message.
 pub record IsMixedCapture (program : Image) (asked : Capture) (bytes : List ℕ) : Type 0 where
   -- How many events each hart has.
   pub counts : ℕ → ℕ
   pub messages : List Message
   pub each : (hart : ℕ) → hart < asked.harts → SendsLog program asked hart (counts hart) messages
   pub none : (hart : ℕ) → asked.harts ≤ hart → of_hart hart messages ≡ []
-  pub turns : messages
-      ≡ after_closing (words_of program) (plan_of program asked) counts
-      (after_turns (words_of program) (plan_of program asked) counts (first_order asked) asked.messages).0 asked.harts
-  pub full : AreFull (words_of program) (plan_of program asked) counts (first_order asked) asked.messages
+  pub mixed : messages ≡ mixed_messages program asked
   pub whole : bytes ≡ start_bytes asked.version (header_of asked) ++ capture messages
 
 -- Such a capture was appended.
@@ -153,27 +187,3 @@ pub record AppendsMixed (program : Image) (asked : Capture) (old new : Option (L
   pub bytes : List ℕ
   pub mixed : IsMixedCapture program asked bytes
   pub text : Appends old new bytes
-
--- A hart's messages among these are the first of those of its log. The log has so many events and is legal for the
--- program.
-pub record SendsFront (program : Image) (asked : Capture) (hart : ℕ) (messages : List Message) : Type 0 where
-  pub count : ℕ
-  pub legal : IsLegalUpTo most_long_rows program (events_of (words_of program) (plan_of program asked) hart count)
-  pub rest : List Message
-  pub own : messages_from hart 0 (payloads asked.period asked.mode
-      (program_log program (events_of (words_of program) (plan_of program asked) hart count)))
-      ≡ of_hart hart messages ++ rest
-
--- The bytes are a header, in version 2, and messages. Each of so many harts sends a front of a log among them, and no
--- other hart has a message.
-pub record IsMixedFront (program : Image) (asked : Capture) (bytes : List ℕ) : Type 0 where
-  pub messages : List Message
-  pub each : (hart : ℕ) → hart < asked.harts → SendsFront program asked hart messages
-  pub none : (hart : ℕ) → asked.harts ≤ hart → of_hart hart messages ≡ []
-  pub whole : bytes ≡ start_bytes asked.version (header_of asked) ++ capture messages
-
--- A beginning of a front of such a capture was appended.
-pub record BeginsMixed (program : Image) (asked : Capture) (old new : Option (List ℕ)) : Type 0 where
-  pub bytes : List ℕ
-  pub front : IsMixedFront program asked bytes
-  pub begun : AppendsBeginning bytes old new

@@ -1,10 +1,10 @@
 -- The messages of harts, mixed as a path sees them.
-use Rattle.std.specs.Prelude.{◌≡◌, ℕ, zero, suc, ◌==◌, All, List, [], ◌∷◌, ◌++◌, None, get_or, length}
+use Rattle.std.specs.Prelude.{◌≡◌, ◌≢◌, ℕ, zero, suc, ◌==◌, All, List, [], ◌∷◌, ◌++◌, get_or, length}
 use Rattle.std.specs.Prelude.{if◌then◌else◌, map, set}
 use Rattle.std.specs.List.{flat_map}
 use Rattle.std.specs.declared.alloc.Global.{Global}
 use Rattle.std.specs.declared.vec.Vec.{Vec}
-use Rattle.message.specs.Capture.{capture}
+use Rattle.message.specs.Capture.{capture, message_bytes}
 use Rattle.message.specs.Cut.{IsMessage}
 use Rattle.message.specs.declared.message.Message.{Message}
 use Rattle.stimulus.specs.Order.{Drawn, drawn_of, first_drawn, leaves, next_turn}
@@ -25,7 +25,7 @@ most_turns = 18446744073709551615
 
 -- Messages of which none is sent.
 abbrev pub unmixed : ℕ → List (List Message) → Mixed
-unmixed seed left = record { drawn = first_drawn seed (length left) mixed_burst None; left = left }
+unmixed seed left = record { drawn = first_drawn seed (length left) mixed_burst 1 0; left = left }
 
 -- The hart at a place sends the first of these messages, which it has left. Without one it leaves the list.
 abbrev pub sends : ℕ → Mixed → List Message → List Message × Mixed
@@ -54,15 +54,33 @@ mixed_from (suc count) mixed =
 unfoldable pub mixed_by : ℕ → List (List Message) → List Message
 mixed_by seed left = mixed_from most_turns (unmixed seed left)
 
--- These bytes are the messages of harts, each hart's as a capture has them.
+-- The bytes begin with these messages, and after them with none.
+pub record AreInFront (own : List Message) (bytes : List ℕ) : Type 0 where
+  pub ranges : All IsMessage own
+  pub rest : List ℕ
+  pub parted : bytes ≡ capture own ++ rest
+  pub no_more : (message : Message) (later : List ℕ) → IsMessage message → rest ≢ message_bytes message ++ later
+
+-- So of each of these lists.
+abbrev pub AllAreInFront : List (List Message) → List (List ℕ) → Type 0
+AllAreInFront [] [] = Unit {0}
+AllAreInFront [] (bytes ∷ others) = ⊥
+AllAreInFront (own ∷ left) [] = ⊥
+AllAreInFront (own ∷ left) (bytes ∷ others) = AreInFront own bytes × AllAreInFront left others
+
+-- These are the messages of harts: those that each hart's bytes begin with.
 abbrev pub AreMessages : List (List Message) → List (Vec ℕ Global) → Type 0
-AreMessages left harts = (map (λ bytes. bytes.items) harts ≡ map capture left) × All (All IsMessage) left
+AreMessages left harts = AllAreInFront left (map (λ bytes. bytes.items) harts)
+
+-- There are such messages.
+pub record HaveMessages (harts : List (Vec ℕ Global)) : Type 0 where
+  pub left : List (List Message)
+  pub are : AreMessages left harts
 
 -- Messages are mixed so far, and the bytes of what is left are there.
 pub record IsMixing {A : Type 0} (mixed : Mixed) (mixing : Mixing A) : Type 0 where
   pub drawn : drawn_of mixing.order ≡ mixed.drawn
-  pub left : mixing.left.items ≡ map capture mixed.left
-  pub ranges : All (All IsMessage) mixed.left
+  pub left : AllAreInFront mixed.left mixing.left.items
 
 -- No message is sent.
 abbrev pub IsUnmixed : {A : Type 0} → ℕ → List (List Message) → Mixing A → Type 0

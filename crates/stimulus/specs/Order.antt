@@ -1,7 +1,7 @@
 -- The order in which harts send.
-use Rattle.std.specs.Prelude.{ℕ, zero, suc, ◌+◌, ◌-◌, ◌%◌, ◌==◌, ◌&&◌, max, nat_lt, not, Bool, true, false}
+use Rattle.std.specs.Prelude.{ℕ, zero, suc, ◌+◌, ◌-◌, ◌%◌, ◌==◌, max, nat_lt, not, Bool, true, false}
 use Rattle.std.specs.Prelude.{List, [], ◌++◌, get_or, length, replicate, Option, Some, None}
-use Rattle.std.specs.List.{filter, list_any}
+use Rattle.std.specs.List.{filter}
 use Rattle.rand_pcg.specs.Lcg.{Lcg}
 use Rattle.rand_pcg.specs.Pcg.{pcg32}
 use Rattle.stimulus.specs.ImageBytes.{generator}
@@ -15,8 +15,10 @@ pub record Drawn : Type 0 where
   pub listed : List ℕ
   -- How many turns of one hart come one after another at most.
   pub burst : ℕ
-  -- Of so many bursts one ends a trace. Where there is none, no burst does.
-  pub ending : Option ℕ
+  -- Of so many bursts one ends a trace, as long as harts may end theirs.
+  pub ending : ℕ
+  -- How many harts may still end theirs.
+  pub ends : ℕ
   -- The hart whose burst it is.
   pub hart : ℕ
   -- How many turns of its burst are left.
@@ -29,6 +31,7 @@ drawn_of order = record {
   listed = order.listed.items;
   burst = order.bursts.longest;
   ending = order.bursts.ending;
+  ends = order.bursts.ends;
   hart = order.hart;
   left = order.left;
 }
@@ -42,13 +45,14 @@ weighed random (suc harts) =
     (before.0 ++ replicate (draw.0 % 4 + 1) harts, draw.1)
 
 -- The order of so many harts, before its first turn.
-unfoldable pub first_drawn : ℕ → ℕ → ℕ → Option ℕ → Drawn
-first_drawn seed harts burst ending =
+unfoldable pub first_drawn : ℕ → ℕ → ℕ → ℕ → ℕ → Drawn
+first_drawn seed harts burst ending ends =
     let listed = weighed (generator seed 32768) harts in record {
       random = listed.1;
       listed = listed.0;
       burst = burst;
       ending = ending;
+      ends = ends;
       hart = 0;
       left = 0;
     }
@@ -57,22 +61,21 @@ first_drawn seed harts burst ending =
 unfoldable pub leaves : ℕ → Drawn → Drawn
 leaves hart drawn = record drawn { listed = filter (λ other. not (other == hart)) drawn.listed; left = 0 }
 
--- The hart whose burst is over leaves the list, if that is so.
+-- The hart whose burst is over leaves the list, if that is so, and one hart less may end its trace.
 abbrev pub leaves_if : Bool → Drawn → Option ℕ × Drawn
-leaves_if true drawn = (Some drawn.hart, leaves drawn.hart drawn)
+leaves_if true drawn = (Some drawn.hart, leaves drawn.hart (record drawn { ends = drawn.ends - 1 }))
 leaves_if false drawn = (None, drawn)
 
--- A draw says so, where bursts end traces and the hart is not the last of the list.
-abbrev pub leaving_of : Option ℕ → Drawn → Option ℕ × Drawn
-leaving_of None drawn = (None, drawn)
-leaving_of (Some ending) drawn =
+-- A draw says so, where a hart may end its trace.
+abbrev pub leaving_by : Bool → Drawn → Option ℕ × Drawn
+leaving_by false drawn = (None, drawn)
+leaving_by true drawn =
     let draw = pcg32 drawn.random in
-    leaves_if ((draw.0 % max ending 1 == 0) && list_any (λ other. not (other == drawn.hart)) drawn.listed)
-    (record drawn { random = draw.1 })
+    leaves_if (draw.0 % max drawn.ending 1 == 0) (record drawn { random = draw.1 })
 
 -- Whether the hart whose burst is over closes its trace.
 unfoldable pub leaving : Drawn → Option ℕ × Drawn
-leaving drawn = leaving_of drawn.ending drawn
+leaving drawn = leaving_by (nat_lt 0 drawn.ends) drawn
 
 -- A burst begins: a draw says which of the list sends, and another how many turns it has after the first.
 unfoldable pub begins_burst : Drawn → Drawn

@@ -1,15 +1,15 @@
 //! Writing a capture in which the messages of many harts are mixed.
 
-ghost use Rattle.std.specs.Prelude.{ℕ, ◌≡◌, ◌≤◌, ◌<◌, Err, IfOk, List, [], OnOk, Some, length};
+ghost use Rattle.std.specs.Prelude.{ℕ, ◌≡◌, ◌≤◌, ◌<◌, ◌*◌, ◌/◌, ◌+◌, Err, IfOk, OnOk, length, min};
+ghost use Rattle.output.specs.Begun.{AppendsBeginning};
 ghost use Rattle.rvclass.specs.Fetch.{words_of};
 ghost use Rattle.rvclass.specs.Image.{IsImage};
 ghost use Rattle.rvclass.specs.Words.{Words};
 ghost use Rattle.captures.specs.Versions.{MayStart};
-ghost use Rattle.message.specs.declared.message.Message.{Message as AnyMessage};
-ghost use Rattle.stimulus.specs.Mixed.{AppendsMixed, BeginsMixed, Plan, ending_of, first_order, header_of, plan_of};
+ghost use Rattle.stimulus.specs.Mixed.{AppendsMixed, Plan, Sent, after_closing, after_turns, closes, closes_one};
+ghost use Rattle.stimulus.specs.Mixed.{ending_of, first_order, goes, has_turn, header_of, mixed_capture, none_sent, plan_of};
 ghost use Rattle.stimulus.specs.Order.{drawn_of};
-ghost use Rattle.stimulus.specs.steps.Sending.{AllBegun, AllSendMore, AreSent, IsClosed, close_all, close_one, send_next};
-ghost use Rattle.stimulus.specs.steps.Sending.{take_turns};
+ghost use Rattle.stimulus.specs.steps.Sending.{AllBegun, AllSend, AreSent, IsClosed};
 
 use crate::mix::Mix;
 use crate::order::{Bursts, Order};
@@ -22,9 +22,6 @@ use retire::WriteFault;
 use rvclass::ProgramOver;
 use std::alloc::{AllocError, Allocator};
 use std::io::Write;
-
-/// In a short capture one of so many bursts ends a trace.
-const SHORTEST_ENDING: u64 = 256;
 
 /// What a capture is made of.
 #[derive(Clone, Copy)]
@@ -50,10 +47,10 @@ pub struct Capture {
 /// Writes a capture of harts that run the program, whose messages are mixed as a path sees them: in bursts of one hart,
 /// harts of different weights, and some that close their traces before the others.
 ///
-/// `messages` steps are drawn, and in each a hart sends one message; a hart with no event left sends none. When a trace
-/// closes, up to two messages come that are not counted. Memory is taken for what each hart keeps, and no list grows
-/// with the run. Where the writer fails, what was written is a prefix of a front of such a capture; where allocation
-/// fails, nothing is written. The writer is not flushed.
+/// `messages` steps are drawn, and in each a hart sends one message; a hart with no event left sends none. A hart runs
+/// just as many events as its messages need. When a trace closes, up to two messages come that are not counted. Memory
+/// is taken for what each hart keeps, and no list grows with the run. Where the writer fails, what was written is a
+/// prefix of the capture; where allocation fails, nothing is written. The writer is not flushed.
 pub fn write_capture<A: Allocator + Copy, W: Write>(
     alloc: A,
     program: &ProgramOver,
@@ -63,7 +60,7 @@ pub fn write_capture<A: Allocator + Copy, W: Write>(
     requires period { 1 ≤ asked.now.period }
     requires start { MayStart asked.now.version (header_of asked.now) }
     ensures capture { OnOk result (AppendsMixed program.now asked.now (W.contents sink.old) (W.contents sink.new)) }
-    ensures begun { BeginsMixed program.now asked.now (W.contents sink.old) (W.contents sink.new) }
+    ensures begun { AppendsBeginning (mixed_capture program.now asked.now) (W.contents sink.old) (W.contents sink.new) }
     ensures untouched { result ≡ Err WriteFault.Memory → sink.new ≡ sink.old }
 {
     let mut senders = senders_of(alloc, program, asked)?;
@@ -74,15 +71,21 @@ pub fn write_capture<A: Allocator + Copy, W: Write>(
     }
 }
 
-/// How the turns of a capture are drawn.
+/// How the turns of a capture are drawn. An end comes after about as many messages as a hart sends on average, and half
+/// of the harts may end their traces before the last turn.
 fn bursts_of(asked: &Capture) -> Bursts
     ensures longest { result.longest ≡ asked.now.burst }
-    ensures ending { result.ending ≡ Some (ending_of asked.now.messages) }
+    ensures ending { result.ending ≡ ending_of asked.now }
+    ensures ends { result.ends ≡ asked.now.harts / 2 }
 {
-    let ending = (asked.messages / 16).clamp(SHORTEST_ENDING, u64::from(u32::MAX));
+    let turns = u64::from(asked.harts) * (u64::from(asked.burst) + 1) / 2;
+    let ending = (asked.messages / turns.max(1))
+        .min(u64::from(u32::MAX))
+        .max(1);
     Bursts {
         longest: asked.burst,
-        ending: Some(ending as u32),
+        ending: ending as u32,
+        ends: asked.harts / 2,
     }
 }
 
@@ -94,7 +97,7 @@ fn senders_of<A: Allocator>(
 ) -> Result<Vec<Sender, A>, AllocError>
     requires { 1 ≤ asked.now.period }
     ensures senders { (words : Words) → IfOk result (λ senders.
-        AreSent words (plan_of program.now asked.now) [] senders.items) }
+        AreSent words (plan_of program.now asked.now) (none_sent asked.now.harts) senders.items) }
     ensures image { IsImage program.now }
 {
     let extent = Extent::of(program);
@@ -115,10 +118,11 @@ fn write_messages<A: Allocator, W: Write>(
 ) -> Result<(), MessageFault>
     requires start { MayStart asked.now.version (header_of asked.now) }
     requires image { IsImage program.now }
-    requires none { AreSent (words_of program.now) (plan_of program.now asked.now) [] senders.old.items }
+    requires none { AreSent (words_of program.now) (plan_of program.now asked.now) (none_sent asked.now.harts)
+        senders.old.items }
     requires first { drawn_of order.old ≡ first_order asked.now }
     ensures capture { OnOk result (AppendsMixed program.now asked.now (W.contents sink.old) (W.contents sink.new)) }
-    ensures begun { BeginsMixed program.now asked.now (W.contents sink.old) (W.contents sink.new) }
+    ensures begun { AppendsBeginning (mixed_capture program.now asked.now) (W.contents sink.old) (W.contents sink.new) }
 {
     write_start(
         sink,
@@ -131,7 +135,7 @@ fn write_messages<A: Allocator, W: Write>(
     finish_all(program, senders, sink)
 }
 
-/// Sends messages of harts that sent none, as they are drawn, so many.
+/// Sends messages of harts as they are drawn, so many.
 fn send_mixed<A: Allocator, W: Write>(
     program: &ProgramOver,
     count: u64,
@@ -139,12 +143,13 @@ fn send_mixed<A: Allocator, W: Write>(
     order: &mut Order<A>,
     sink: &mut W,
 ) -> Result<(), MessageFault>
-    ensures sent { (plan : Plan) → AreSent (words_of program.now) plan [] senders.old.items
-        → OnOk result (AllSendMore (words_of program.now) plan
-        (take_turns (words_of program.now) plan (drawn_of order.old) count (drawn_of order.new)) []
-        senders.old.items senders.new.items (W.contents sink.old) (W.contents sink.new)) }
-    ensures begun { (plan : Plan) → AreSent (words_of program.now) plan [] senders.old.items
-        → AllBegun (words_of program.now) plan [] senders.new.items (W.contents sink.old) (W.contents sink.new) }
+    ensures sent { (plan : Plan) (sent : Sent) → AreSent (words_of program.now) plan sent senders.old.items
+        → OnOk result (AllSend (words_of program.now) plan sent
+        (after_turns (words_of program.now) plan (sent, drawn_of order.old) count).0 senders.new.items
+        (W.contents sink.old) (W.contents sink.new)) }
+    ensures begun { (plan : Plan) (sent : Sent) → AreSent (words_of program.now) plan sent senders.old.items
+        → AllBegun sent (after_turns (words_of program.now) plan (sent, drawn_of order.old) count).0
+        (W.contents sink.old) (W.contents sink.new) }
 {
     for _ in 0..count {
         let turn = order.next();
@@ -161,13 +166,12 @@ fn send_one<A: Allocator, W: Write>(
     hart: u16,
     sink: &mut W,
 ) -> Result<(), MessageFault>
-    ensures sent { (plan : Plan) (messages : List AnyMessage)
-        → AreSent (words_of program.now) plan messages senders.old.items
-        → OnOk result (AllSendMore (words_of program.now) plan (send_next (words_of program.now) plan hart) messages
-        senders.old.items senders.new.items (W.contents sink.old) (W.contents sink.new)) }
-    ensures begun { (plan : Plan) (messages : List AnyMessage)
-        → AreSent (words_of program.now) plan messages senders.old.items
-        → AllBegun (words_of program.now) plan messages senders.new.items
+    ensures sent { (plan : Plan) (sent : Sent) → AreSent (words_of program.now) plan sent senders.old.items
+        → OnOk result (AllSend (words_of program.now) plan sent
+        (goes (words_of program.now) plan has_turn hart sent) senders.new.items
+        (W.contents sink.old) (W.contents sink.new)) }
+    ensures begun { (plan : Plan) (sent : Sent) → AreSent (words_of program.now) plan sent senders.old.items
+        → AllBegun sent (goes (words_of program.now) plan has_turn hart sent)
         (W.contents sink.old) (W.contents sink.new) }
 {
     let place = usize::from(hart);
@@ -184,13 +188,12 @@ fn finish_one<A: Allocator, W: Write>(
     hart: Option<u16>,
     sink: &mut W,
 ) -> Result<(), MessageFault>
-    ensures sent { (plan : Plan) (messages : List AnyMessage)
-        → AreSent (words_of program.now) plan messages senders.old.items
-        → OnOk result (AllSendMore (words_of program.now) plan (close_one (words_of program.now) plan hart) messages
-        senders.old.items senders.new.items (W.contents sink.old) (W.contents sink.new)) }
-    ensures begun { (plan : Plan) (messages : List AnyMessage)
-        → AreSent (words_of program.now) plan messages senders.old.items
-        → AllBegun (words_of program.now) plan messages senders.new.items
+    ensures sent { (plan : Plan) (sent : Sent) → AreSent (words_of program.now) plan sent senders.old.items
+        → OnOk result (AllSend (words_of program.now) plan sent
+        (closes_one (words_of program.now) plan hart sent) senders.new.items
+        (W.contents sink.old) (W.contents sink.new)) }
+    ensures begun { (plan : Plan) (sent : Sent) → AreSent (words_of program.now) plan sent senders.old.items
+        → AllBegun sent (closes_one (words_of program.now) plan hart sent)
         (W.contents sink.old) (W.contents sink.new) }
 {
     let Some(hart) = hart else {
@@ -211,13 +214,12 @@ fn finish_at<A: Allocator, W: Write>(
     sink: &mut W,
 ) -> Result<(), MessageFault>
     requires { place < length senders.old.items }
-    ensures sent { (plan : Plan) (messages : List AnyMessage)
-        → AreSent (words_of program.now) plan messages senders.old.items
-        → OnOk result (AllSendMore (words_of program.now) plan (close_one (words_of program.now) plan (Some place)) messages
-        senders.old.items senders.new.items (W.contents sink.old) (W.contents sink.new)) }
-    ensures begun { (plan : Plan) (messages : List AnyMessage)
-        → AreSent (words_of program.now) plan messages senders.old.items
-        → AllBegun (words_of program.now) plan messages senders.new.items
+    ensures sent { (plan : Plan) (sent : Sent) → AreSent (words_of program.now) plan sent senders.old.items
+        → OnOk result (AllSend (words_of program.now) plan sent
+        (goes (words_of program.now) plan closes place sent) senders.new.items
+        (W.contents sink.old) (W.contents sink.new)) }
+    ensures begun { (plan : Plan) (sent : Sent) → AreSent (words_of program.now) plan sent senders.old.items
+        → AllBegun sent (goes (words_of program.now) plan closes place sent)
         (W.contents sink.old) (W.contents sink.new) }
     ensures closed { OnOk result (IsClosed place senders.new.items) }
     ensures others { (other : ℕ) → IsClosed other senders.old.items → OnOk result (IsClosed other senders.new.items) }
@@ -232,13 +234,12 @@ fn finish_all<A: Allocator, W: Write>(
     senders: &mut Vec<Sender, A>,
     sink: &mut W,
 ) -> Result<(), MessageFault>
-    ensures sent { (plan : Plan) (messages : List AnyMessage)
-        → AreSent (words_of program.now) plan messages senders.old.items
-        → OnOk result (AllSendMore (words_of program.now) plan (close_all (words_of program.now) plan (length senders.new.items)) messages
-        senders.old.items senders.new.items (W.contents sink.old) (W.contents sink.new)) }
-    ensures begun { (plan : Plan) (messages : List AnyMessage)
-        → AreSent (words_of program.now) plan messages senders.old.items
-        → AllBegun (words_of program.now) plan messages senders.new.items
+    ensures sent { (plan : Plan) (sent : Sent) → AreSent (words_of program.now) plan sent senders.old.items
+        → OnOk result (AllSend (words_of program.now) plan sent
+        (after_closing (words_of program.now) plan sent (length senders.old.items)) senders.new.items
+        (W.contents sink.old) (W.contents sink.new)) }
+    ensures begun { (plan : Plan) (sent : Sent) → AreSent (words_of program.now) plan sent senders.old.items
+        → AllBegun sent (after_closing (words_of program.now) plan sent (length senders.old.items))
         (W.contents sink.old) (W.contents sink.new) }
     ensures closed { (hart : ℕ) → hart < length senders.new.items
         → OnOk result (IsClosed hart senders.new.items) }

@@ -23,3 +23,4 @@ pub use image::{IMAGE_SIZE, image_of};
 pub use logging::{Log, write_log};
 pub use mix::Mix;
 pub use mixing::Mixing;
+pub use walk::{Walk, WalkState};

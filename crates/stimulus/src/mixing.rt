@@ -3,12 +3,11 @@
 ghost use Rattle.std.specs.Prelude.{◌≡◌, ◌<◌, ℕ, All, IfErr, IfOk, IfSome, List, [], OnOk, get_or, length, map};
 ghost use Rattle.std.specs.Io.KnownBytes.{Appends};
 ghost use Rattle.std.specs.List.{flat_map};
-ghost use Rattle.message.specs.Capture.{capture};
-ghost use Rattle.message.specs.Cut.{IsMessage};
 ghost use Rattle.message.specs.declared.message.Message.{Message as AnyMessage};
+ghost use Rattle.message.specs.steps.Filling.{AreBytes};
 ghost use Rattle.output.specs.Begun.{AppendsBeginning};
-ghost use Rattle.stimulus.specs.Mixing.{AreMessages, IsMixing, IsUnmixed, Mixed, mixed_by, mixed_from, most_turns};
-ghost use Rattle.stimulus.specs.Mixing.{turn};
+ghost use Rattle.stimulus.specs.Mixing.{AllAreInFront, AreInFront, AreMessages, HaveMessages, IsMixing, IsUnmixed, Mixed};
+ghost use Rattle.stimulus.specs.Mixing.{mixed_by, mixed_from, most_turns, turn};
 ghost use Rattle.stimulus.specs.steps.Drawing.{TakesFirst, TakesNext, WritesTurns};
 
 use crate::order::{Bursts, Order};
@@ -30,10 +29,12 @@ pub struct Mixing<'a, A: Allocator> {
 }
 
 impl<'a, A: Allocator + Copy> Mixing<'a, A> {
-    /// The messages of harts, each hart's as the bytes of a capture have them, before any is written. The seed decides
-    /// how they are mixed. The error says that an allocation failed, or that there are more than 65,535 harts.
+    /// The messages of harts, before any is written: of each hart those that its bytes begin with, as in a capture. Bytes
+    /// behind them are passed over. The seed decides how they are mixed. The error says that an allocation failed, or
+    /// that there are more than 65,535 harts.
     pub fn new(alloc: A, seed: u64, harts: &'a [Vec<u8>]) -> Result<Mixing<'a, A>, AllocError>
-        ensures { (left : List (List AnyMessage)) → AreMessages left harts.entry.now
+        ensures messages { IfOk result (λ mixing. HaveMessages harts.entry.now) }
+        ensures unmixed { (left : List (List AnyMessage)) → AreMessages left harts.entry.now
             → IfOk result (IsUnmixed seed left) }
     {
         let Ok(count) = u16::try_from(harts.len()) else {
@@ -41,7 +42,8 @@ impl<'a, A: Allocator + Copy> Mixing<'a, A> {
         };
         let bursts = Bursts {
             longest: LONGEST_BURST,
-            ending: None,
+            ending: 1,
+            ends: 0,
         };
         let order = Order::new(alloc, seed, count, bursts)?;
         let left = messages_of(alloc, harts)?;
@@ -106,19 +108,27 @@ fn messages_of<'a, A: Allocator>(
     alloc: A,
     harts: &'a [Vec<u8>],
 ) -> Result<Vec<Messages<'a>, A>, AllocError>
-    ensures { IfOk result (λ left. left.items ≡ map (λ bytes. bytes.items) harts.entry.now) }
+    ensures left { IfOk result (λ left. left.items ≡ map (λ bytes. bytes.items) harts.entry.now) }
+    ensures bytes { IfOk result (λ left. All AreBytes left.items) }
 {
     let mut left = Vec::new(alloc);
     for bytes in harts {
-        left.push(Messages::new(bytes.as_slice()))?;
+        left.push(messages_in(bytes.as_slice()))?;
     }
     Ok(left)
 }
 
+/// The messages of a hart, whose bytes these are.
+fn messages_in(bytes: &[u8]) -> Messages<'_>
+    ensures same { result ≡ bytes.now }
+    ensures bytes { AreBytes bytes.now }
+{
+    Messages::new(bytes)
+}
+
 /// Takes the first of the messages that the hart of this number has left, if there is one.
 fn take_first<A: Allocator>(left: &mut Vec<Messages<'_>, A>, hart: u16) -> Option<Message>
-    ensures { (messages : List (List AnyMessage)) → left.old.items ≡ map capture messages
-        → All (All IsMessage) messages
+    ensures { (messages : List (List AnyMessage)) → AllAreInFront messages left.old.items
         → TakesFirst messages hart (get_or messages hart []) result left.new.items }
 {
     let place = usize::from(hart);
@@ -130,7 +140,7 @@ fn take_first<A: Allocator>(left: &mut Vec<Messages<'_>, A>, hart: u16) -> Optio
 
 /// Takes the first of the messages that a hart has left, if there is one.
 fn next_of(own: &mut Messages<'_>) -> Option<Message>
-    ensures taken { (messages : List AnyMessage) → own.old ≡ capture messages → All IsMessage messages
+    ensures taken { (messages : List AnyMessage) → AreInFront messages own.old
         → TakesNext messages result own.new }
     ensures shorter { IfSome result (λ message. length own.new < length own.old) }
 {
@@ -145,12 +155,10 @@ fn write_left<'a, A: Allocator, F: Form, W: Write>(
     left: Vec<Messages<'a>, A>,
     sink: &mut W,
 ) -> Result<(), MessageFault>
-    ensures text { (messages : List (List AnyMessage)) → left.entry.items ≡ map capture messages
-        → All (All IsMessage) messages
+    ensures text { (messages : List (List AnyMessage)) → AllAreInFront messages left.entry.items
         → OnOk result (Appends (W.contents sink.old) (W.contents sink.new)
         (flat_map F.text (flat_map (λ own. own) messages))) }
-    ensures begun { (messages : List (List AnyMessage)) → left.entry.items ≡ map capture messages
-        → All (All IsMessage) messages
+    ensures begun { (messages : List (List AnyMessage)) → AllAreInFront messages left.entry.items
         → AppendsBeginning (flat_map F.text (flat_map (λ own. own) messages))
         (W.contents sink.old) (W.contents sink.new) }
     ensures fault { IfErr result (λ fault. fault ≡ MessageFault.Write) }
@@ -163,9 +171,9 @@ fn write_left<'a, A: Allocator, F: Form, W: Write>(
 
 /// Writes all messages that a hart has left.
 fn write_own<'a, F: Form, W: Write>(mut own: Messages<'a>, sink: &mut W) -> Result<(), MessageFault>
-    ensures text { (messages : List AnyMessage) → own.entry ≡ capture messages → All IsMessage messages
+    ensures text { (messages : List AnyMessage) → AreInFront messages own.entry
         → OnOk result (Appends (W.contents sink.old) (W.contents sink.new) (flat_map F.text messages)) }
-    ensures begun { (messages : List AnyMessage) → own.entry ≡ capture messages → All IsMessage messages
+    ensures begun { (messages : List AnyMessage) → AreInFront messages own.entry
         → AppendsBeginning (flat_map F.text messages) (W.contents sink.old) (W.contents sink.new) }
     ensures fault { IfErr result (λ fault. fault ≡ MessageFault.Write) }
 {

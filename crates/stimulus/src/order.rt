@@ -1,7 +1,7 @@
 //! The order in which harts send, as a path sees it.
 
 ghost use Rattle.std.specs.Prelude.{◌≡◌, ◌==◌, ◌%◌, ◌++◌, IfOk, OnOk, get_or, length, max, not, replicate};
-ghost use Rattle.std.specs.List.{filter, list_any};
+ghost use Rattle.std.specs.List.{filter};
 ghost use Rattle.stimulus.specs.Order.{begins_burst, drawn_of, first_drawn, leaves, leaving, next_turn, weighed};
 
 use rand_core::utils::NextWord;
@@ -25,8 +25,10 @@ pub(crate) struct Turn {
 pub(crate) struct Bursts {
     /// How many turns of one hart come one after another at most.
     pub(crate) longest: u32,
-    /// Of so many bursts one ends a trace. Where there is none, no burst does.
-    pub(crate) ending: Option<u32>,
+    /// Of so many bursts one ends a trace, as long as harts may end theirs.
+    pub(crate) ending: u32,
+    /// How many harts may still end theirs.
+    pub(crate) ends: u16,
 }
 
 /// Draws which hart sends next. Harts send in bursts. A hart of more weight comes more often, and a hart may end before
@@ -51,7 +53,7 @@ impl<A: Allocator> Order<A> {
         harts: u16,
         bursts: Bursts,
     ) -> Result<Order<A>, AllocError>
-        ensures { IfOk result (λ order. drawn_of order ≡ first_drawn seed harts bursts.longest bursts.ending) }
+        ensures { IfOk result (λ order. drawn_of order ≡ first_drawn seed harts bursts.longest bursts.ending bursts.ends) }
     {
         let mut random = Pcg32::new(seed, STREAM);
         let listed = weighed(alloc, &mut random, harts)?;
@@ -71,7 +73,7 @@ impl<A: Allocator> Order<A> {
         self.listed.is_empty()
     }
 
-    /// What comes next. After a burst the hart may close its trace, unless it is the last.
+    /// What comes next. After a burst the hart may close its trace, as long as harts may.
     #[tactic(auto, unfolding(crate::specs::Order::next_turn))]
     pub(crate) fn next(&mut self) -> Turn
         ensures { (result, drawn_of self.new) ≡ next_turn (drawn_of self.old) }
@@ -100,23 +102,21 @@ impl<A: Allocator> Order<A> {
         self.left = 0;
     }
 
-    /// The hart whose burst has ended, if it is drawn that it closes its trace, and it is not the last.
+    /// The hart whose burst has ended, if one more may close its trace and it is drawn that this one does.
+    #[tactic(auto, unfolding(crate::specs::Order::leaving))]
     fn leaving(&mut self) -> Option<u16>
         ensures { (result, drawn_of self.new) ≡ leaving (drawn_of self.old) }
     {
-        let Some(ending) = self.bursts.ending else {
-            return None;
-        };
-        let draw = self.random.next_word();
-        let hart = self.hart;
-        if draw % ending.max(1) != 0 {
-            return None;
+        if self.bursts.ends > 0 {
+            let draw = self.random.next_word();
+            if draw % self.bursts.ending.max(1) == 0 {
+                let hart = self.hart;
+                self.bursts.ends -= 1;
+                self.leave(hart);
+                return Some(hart);
+            }
         }
-        if !has_others(self.listed.as_slice(), hart) {
-            return None;
-        }
-        self.leave(hart);
-        Some(hart)
+        None
     }
 
     /// Draws which hart sends, and how many turns it has.
@@ -166,13 +166,6 @@ fn remove_hart<A: Allocator>(listed: &mut Vec<u16, A>, hart: u16)
     ensures { listed.new.items ≡ filter (λ other. not (other == hart)) listed.old.items }
 {
     listed.retain(|other| *other != hart);
-}
-
-/// Whether a list has another hart than this.
-fn has_others(listed: &[u16], hart: u16) -> bool
-    ensures { result ≡ list_any (λ other. not (other == hart)) listed.now }
-{
-    listed.iter().any(|other| *other != hart)
 }
 
 /// The hart of a list that a draw says.

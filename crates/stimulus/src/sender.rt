@@ -1,19 +1,17 @@
 //! A hart that sends its messages.
 
-ghost use Rattle.std.specs.Prelude.{ℕ, ◌≡◌, ◌≤◌, ◌%◌, ◌++◌, All, IfErr, List, [], ◌∷◌, OnOk, map};
+ghost use Rattle.std.specs.Prelude.{ℕ, ◌≡◌, ◌≤◌, ◌%◌, All, IfErr, [], ◌∷◌, OnOk, map};
 ghost use Rattle.output.specs.Begun.{AppendsBeginning};
 ghost use Rattle.rvclass.specs.Fetch.{words_of};
 ghost use Rattle.rvclass.specs.Words.{Words};
 ghost use Rattle.message.specs.Capture.{capture, message_bytes};
 ghost use Rattle.message.specs.Numbered.{messages_from};
-ghost use Rattle.message.specs.declared.message.Message.{Message as AnyMessage};
 ghost use Rattle.payload.specs.Profile.{InProfile};
 ghost use Rattle.payload.specs.Spelling.{payload_of};
-ghost use Rattle.payload.specs.declared.packet.Packet.{Packet as AnyPacket};
-ghost use Rattle.stimulus.specs.Mixed.{Plan};
+ghost use Rattle.stimulus.specs.Mixed.{Plan, Stand, closes, has_turn, sent_between, unsent};
 ghost use Rattle.stimulus.specs.Walk.{first_walk};
 ghost use Rattle.stimulus.specs.Walked.{HasWalked};
-ghost use Rattle.stimulus.specs.steps.Sending.{GivesNext, HasGiven, HasSent, Numbered, SendsBegun, SendsMore, SendsNext};
+ghost use Rattle.stimulus.specs.steps.Sending.{Gives, HasGiven, HasSent, Numbered, Sends};
 
 use crate::capturing::Capture;
 use crate::hart::Hart;
@@ -47,9 +45,8 @@ impl Tracer {
     /// A hart of which no packet was given.
     fn new(hart: Hart, period: u16, mode: Mode) -> Tracer
         requires { 1 ≤ period }
-        ensures given { (words : Words) (plan : Plan) (number : ℕ) → plan.period ≡ period → plan.mode ≡ mode
-            → HasWalked words (plan.start number) [] hart → HasGiven words plan number [] result }
-        ensures hart { result.hart ≡ hart }
+        ensures { (words : Words) (plan : Plan) (number : ℕ) → plan.period ≡ period → plan.mode ≡ mode
+            → HasWalked words (plan.start number) [] hart → HasGiven words plan number unsent result }
     {
         Tracer {
             hart,
@@ -61,16 +58,12 @@ impl Tracer {
     /// The packet that opens the trace, or the next one: the hart goes on until one is due. There is none where the
     /// hart has no event more, and after the trace was closed.
     fn next(&mut self, program: &ProgramOver) -> Burst
-        ensures given { (plan : Plan) (number : ℕ) (given : List AnyPacket)
-            → HasGiven (words_of program.now) plan number given self.old
-            → HasGiven (words_of program.now) plan number (given ++ result.items) self.new }
-        ensures profile { (plan : Plan) (number : ℕ) (given : List AnyPacket)
-            → HasGiven (words_of program.now) plan number given self.old → All InProfile result.items }
-        ensures next { (plan : Plan) (number : ℕ) (given : List AnyPacket)
-            → HasGiven (words_of program.now) plan number given self.old
-            → GivesNext (words_of program.now) plan number self.old self.new result.items }
-        ensures opened { self.old.phase ≡ Phase.Fresh
-            → (self.new.phase ≡ Phase.Open) × (self.new.hart ≡ self.old.hart) }
+        ensures given { (plan : Plan) (number : ℕ) (stand : Stand)
+            → HasGiven (words_of program.now) plan number stand self.old
+            → Gives (words_of program.now) plan number stand (has_turn stand) self.new result.items }
+        ensures profile { (plan : Plan) (number : ℕ) (stand : Stand)
+            → HasGiven (words_of program.now) plan number stand self.old → All InProfile result.items }
+        ensures opened { self.old.phase ≡ Phase.Fresh → self.new.phase ≡ Phase.Open }
     {
         match self.phase {
             Phase::Fresh => {
@@ -87,14 +80,11 @@ impl Tracer {
     /// Goes on until a packet is due.
     fn run(&mut self, program: &ProgramOver) -> Burst
         requires { self.old.phase ≡ Phase.Open }
-        ensures given { (plan : Plan) (number : ℕ) (given : List AnyPacket)
-            → HasGiven (words_of program.now) plan number given self.old
-            → HasGiven (words_of program.now) plan number (given ++ result.items) self.new }
-        ensures profile { (plan : Plan) (number : ℕ) (given : List AnyPacket)
-            → HasGiven (words_of program.now) plan number given self.old → All InProfile result.items }
-        ensures next { (plan : Plan) (number : ℕ) (given : List AnyPacket)
-            → HasGiven (words_of program.now) plan number given self.old
-            → GivesNext (words_of program.now) plan number self.old self.new result.items }
+        ensures given { (plan : Plan) (number : ℕ) (stand : Stand)
+            → HasGiven (words_of program.now) plan number stand self.old
+            → Gives (words_of program.now) plan number stand (has_turn stand) self.new result.items }
+        ensures profile { (plan : Plan) (number : ℕ) (stand : Stand)
+            → HasGiven (words_of program.now) plan number stand self.old → All InProfile result.items }
     {
         while let Some(event) = self.hart.next_event(program) {
             let burst = self.encoder.push(program, event);
@@ -108,13 +98,12 @@ impl Tracer {
     /// Closes the trace, and returns the packets that are left.
     fn close(&mut self, program: &ProgramOver) -> Burst
         requires { self.old.phase ≡ Phase.Open }
-        ensures given { (plan : Plan) (number : ℕ) (given : List AnyPacket)
-            → HasGiven (words_of program.now) plan number given self.old
-            → HasGiven (words_of program.now) plan number (given ++ result.items) self.new }
-        ensures profile { (plan : Plan) (number : ℕ) (given : List AnyPacket)
-            → HasGiven (words_of program.now) plan number given self.old → All InProfile result.items }
+        ensures given { (plan : Plan) (number : ℕ) (stand : Stand)
+            → HasGiven (words_of program.now) plan number stand self.old
+            → Gives (words_of program.now) plan number stand (closes stand) self.new result.items }
+        ensures profile { (plan : Plan) (number : ℕ) (stand : Stand)
+            → HasGiven (words_of program.now) plan number stand self.old → All InProfile result.items }
         ensures closed { self.new.phase ≡ Phase.Closed }
-        ensures kept { self.new.hart ≡ self.old.hart }
     {
         self.phase = Phase::Closed;
         Encoder::from_state(self.encoder.state()).finish(program)
@@ -184,7 +173,7 @@ impl Sender {
         requires even { extent.base % 2 ≡ 0 }
         ensures { (words : Words) (plan : Plan) → plan.period ≡ asked.now.period → plan.mode ≡ asked.now.mode
             → plan.start hart ≡ first_walk extent asked.now.mix asked.now.seed hart
-            → HasSent words plan hart [] result }
+            → HasSent words plan hart unsent result }
     {
         let walker = Hart::within(extent, asked.mix, asked.seed, hart);
         Sender {
@@ -199,16 +188,15 @@ impl Sender {
         program: &ProgramOver,
         sink: &mut W,
     ) -> Result<(), MessageFault>
-        ensures sent { (plan : Plan) (hart : ℕ) (own : List AnyMessage)
-            → HasSent (words_of program.now) plan hart own self.old
-            → OnOk result (SendsNext (words_of program.now) plan hart own self.old self.new
+        ensures sent { (plan : Plan) (hart : ℕ) (stand : Stand)
+            → HasSent (words_of program.now) plan hart stand self.old
+            → OnOk result (Sends (words_of program.now) plan hart stand (has_turn stand) self.new
             (W.contents sink.old) (W.contents sink.new)) }
-        ensures begun { (plan : Plan) (hart : ℕ) (own : List AnyMessage)
-            → HasSent (words_of program.now) plan hart own self.old
-            → SendsBegun (words_of program.now) plan hart own self.new
+        ensures begun { (plan : Plan) (hart : ℕ) (stand : Stand)
+            → HasSent (words_of program.now) plan hart stand self.old
+            → AppendsBeginning (capture (sent_between (words_of program.now) plan hart stand (has_turn stand)))
             (W.contents sink.old) (W.contents sink.new) }
-        ensures opened { self.old.tracer.phase ≡ Phase.Fresh
-            → (self.new.tracer.phase ≡ Phase.Open) × (self.new.tracer.hart ≡ self.old.tracer.hart) }
+        ensures opened { self.old.tracer.phase ≡ Phase.Fresh → self.new.tracer.phase ≡ Phase.Open }
         ensures fault { IfErr result (λ fault. fault ≡ MessageFault.Write) }
     {
         let burst = self.tracer.next(program);
@@ -221,16 +209,15 @@ impl Sender {
         program: &ProgramOver,
         sink: &mut W,
     ) -> Result<(), MessageFault>
-        ensures sent { (plan : Plan) (hart : ℕ) (own : List AnyMessage)
-            → HasSent (words_of program.now) plan hart own self.old
-            → OnOk result (SendsMore (words_of program.now) plan hart own self.new
+        ensures sent { (plan : Plan) (hart : ℕ) (stand : Stand)
+            → HasSent (words_of program.now) plan hart stand self.old
+            → OnOk result (Sends (words_of program.now) plan hart stand (closes stand) self.new
             (W.contents sink.old) (W.contents sink.new)) }
-        ensures begun { (plan : Plan) (hart : ℕ) (own : List AnyMessage)
-            → HasSent (words_of program.now) plan hart own self.old
-            → SendsBegun (words_of program.now) plan hart own self.new
+        ensures begun { (plan : Plan) (hart : ℕ) (stand : Stand)
+            → HasSent (words_of program.now) plan hart stand self.old
+            → AppendsBeginning (capture (sent_between (words_of program.now) plan hart stand (closes stand)))
             (W.contents sink.old) (W.contents sink.new) }
         ensures closed { OnOk result (self.new.tracer.phase ≡ Phase.Closed) }
-        ensures kept { self.new.tracer.hart ≡ self.old.tracer.hart }
         ensures fault { IfErr result (λ fault. fault ≡ MessageFault.Write) }
     {
         match self.tracer.phase {
@@ -246,16 +233,15 @@ impl Sender {
     /// Sends the messages that are left of a trace that was opened, and the one that closes it.
     fn close<W: Write>(&mut self, program: &ProgramOver, sink: &mut W) -> Result<(), MessageFault>
         requires { self.old.tracer.phase ≡ Phase.Open }
-        ensures sent { (plan : Plan) (hart : ℕ) (own : List AnyMessage)
-            → HasSent (words_of program.now) plan hart own self.old
-            → OnOk result (SendsMore (words_of program.now) plan hart own self.new
+        ensures sent { (plan : Plan) (hart : ℕ) (stand : Stand)
+            → HasSent (words_of program.now) plan hart stand self.old
+            → OnOk result (Sends (words_of program.now) plan hart stand (closes stand) self.new
             (W.contents sink.old) (W.contents sink.new)) }
-        ensures begun { (plan : Plan) (hart : ℕ) (own : List AnyMessage)
-            → HasSent (words_of program.now) plan hart own self.old
-            → SendsBegun (words_of program.now) plan hart own self.new
+        ensures begun { (plan : Plan) (hart : ℕ) (stand : Stand)
+            → HasSent (words_of program.now) plan hart stand self.old
+            → AppendsBeginning (capture (sent_between (words_of program.now) plan hart stand (closes stand)))
             (W.contents sink.old) (W.contents sink.new) }
         ensures closed { self.new.tracer.phase ≡ Phase.Closed }
-        ensures kept { self.new.tracer.hart ≡ self.old.tracer.hart }
         ensures fault { IfErr result (λ fault. fault ≡ MessageFault.Write) }
     {
         let burst = self.tracer.close(program);

@@ -7,6 +7,7 @@ ghost use Rattle.rvclass.specs.Image.{IsImage};
 ghost use Rattle.legalpath.specs.Allowed.{may_retire_at};
 ghost use Rattle.stimulus.specs.Walk.{branches, comes_at, draws_trap, epc_by, excepts, extent_of, first_walk, handles};
 ghost use Rattle.stimulus.specs.Walk.{lands, level_of, levels, number, retires_free, retires_to, returns_by, steps};
+ghost use Rattle.stimulus.specs.WalkKept.{state_of, walk_of};
 
 use crate::mix::{Habits, Mix, habits_of};
 use legalpath::{greatest_after, may_retire_at};
@@ -50,9 +51,22 @@ impl Extent {
     }
 }
 
-/// Where a hart is, and what it draws from.
+/// What a walk keeps between two events. [`Walk::state`] gives it, and [`Walk::of`] goes on from it.
+#[derive(Clone, Copy)]
+pub struct WalkState {
+    /// The state of the generator that the hart draws from.
+    pub random: u64,
+    /// Where the next instruction is, if no trap comes before it.
+    pub at: u64,
+    /// The hart's privilege level.
+    pub privilege: u8,
+    /// Whether the next event may be anywhere.
+    pub is_free: bool,
+}
+
+/// Where a hart is, and what it draws from. A [`Hart`](crate::Hart) counts its events too, and ends.
 #[derive(Drop)]
-pub(crate) struct Walk {
+pub struct Walk {
     extent: Extent,
     habits: Habits,
     random: Pcg32,
@@ -81,10 +95,48 @@ impl Walk {
         walk
     }
 
+    /// The walk of the hart of this number, which runs this program and kept this; or before its first event, where it
+    /// kept nothing.
+    pub fn of(
+        program: &ProgramOver,
+        mix: Mix,
+        seed: u64,
+        hart: u16,
+        kept: Option<WalkState>,
+    ) -> Walk
+        ensures walk { result ≡ walk_of program.now mix seed hart kept }
+        ensures image { IsImage program.now }
+    {
+        let extent = Extent::of(program);
+        let Some(kept) = kept else {
+            return Walk::new(extent, mix, seed, hart);
+        };
+        Walk {
+            extent,
+            habits: habits_of(mix),
+            random: Pcg32::from_state(kept.random, FIRST_STREAM + u64::from(hart)),
+            at: kept.at,
+            privilege: kept.privilege,
+            is_free: kept.is_free,
+        }
+    }
+
+    /// What the walk keeps, from which [`Walk::of`] makes the same walk.
+    pub fn state(&self) -> WalkState
+        ensures { result ≡ state_of self.now }
+    {
+        WalkState {
+            random: self.random.state(),
+            at: self.at,
+            privilege: self.privilege,
+            is_free: self.is_free,
+        }
+    }
+
     /// The hart's next event.
     #[inline]
     #[tactic(auto, unfolding(crate::specs::Walk::steps))]
-    pub(crate) fn step(&mut self, program: &ProgramOver) -> Event
+    pub fn step(&mut self, program: &ProgramOver) -> Event
         ensures event { (result, self.new) ≡ steps (words_of program.now) self.old }
         ensures numbers { Is64Bit result }
     {

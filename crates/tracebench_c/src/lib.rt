@@ -7,6 +7,7 @@
 pub mod checking;
 pub mod decoding;
 pub mod encoding;
+pub mod generating;
 pub mod messages;
 pub mod paths;
 pub mod reports;

@@ -7,6 +7,7 @@ use Rattle.bench.specs.Collected.{Collected, HasCollected}
 use Rattle.bench.specs.Stopping.{LacksPayloads, NamesOpen}
 use Rattle.bench.specs.steps.Gathering.{AreGathered, harts_of}
 use Rattle.bench.specs.steps.Taking.{CameUnlessRefused}
+use Rattle.bench.proofs.CollectorLemmas.{none_set}
 use Rattle.bench.proofs.FirstHarts.{names_back, names_open}
 use Rattle.bench.proofs.ReplayEnds.{Finishes, are_beginnings, are_those_taken, lack_some_taken, none_is_closed}
 use Rattle.bench.proofs.SettledHarts.{are_carried, gathered_taken, handed_back_as}
@@ -28,6 +29,11 @@ settle_all-requires-clause-workers g c κs within = λ k d low.
       period = own.period;
       mode = own.mode;
     }
+
+pub settle_all-requires-clause-none : goal.settle_all-requires-clause-none
+settle_all-requires-clause-none g c κs within = λ hart.
+    none_set (length c.args.plan.now.logs.now) c.as_mut_slice.result.now hart
+    (c.as_mut_slice.ensures.value ∙ c.in_ok-handed_back.ensures.items_if_clones_equal (λ y same. same))
 
 module _ (g : _) (c : After-settle_all g) where
   -- The harts whose workers were started.

@@ -6,6 +6,7 @@ use Rattle.clap.specs.Words.{FailsBy, fault_of, found_of, kind_of, rows_of}
 use Rattle.clap.specs.declared.error.kind.ErrorKind.TheVariants.{OutOfMemory}
 use Rattle.cli.specs.Asking.{AreRefused}
 use Rattle.cli.specs.Grammar.{program_app}
+use Rattle.cli.proofs.NumberLemmas.{within_limits}
 use Rattle.cli.proofs.SubcommandLemmas.{fails_own, faultless, is_ruled, matches_own, named, never_none, refused_by}
 use Rattle.cli.proofs.SubcommandLemmas.{words_ask}
 use Rattle.cli.proofs.asking.asked.Goals as goal
@@ -46,3 +47,8 @@ returns-clause-found c =
 pub returns-clause-refused : goal.returns-clause-refused
 returns-clause-refused c =
     faultless _ _ c.in_ok-program.ensures (c.in_ok-matches.ensures.kinds (is_ruled _ c.in_ok-program.ensures))
+
+pub returns-clause-limits : goal.returns-clause-limits
+returns-clause-limits c =
+    within_limits c.in-Some.name.now (rows_of (found_of c.in-Some.given.now)) c.in_ok-asked_of-in-Some.field-0
+    c.in_ok-asked_of-in-Some.ensures

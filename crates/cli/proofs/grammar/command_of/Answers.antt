@@ -1,8 +1,8 @@
 -- A command's grammar is too large to be searched in: what each call keeps of it is handed over.
 use Rattle.std.proofs.Common.{refl, arith}
 use Rattle.clap.specs.Words.{new_app}
-use Rattle.cli.specs.Grammar.{HasGrammar, with_argument}
-use Rattle.cli.specs.steps.Subcommands.{app_of_subcommand}
+use Rattle.cli.specs.Grammar.{HasGrammar}
+use Rattle.cli.specs.steps.Subcommands.{app_of_subcommand, with_argument}
 use Rattle.cli.proofs.GrammarLemmas.{adds_rule, leads_on, led, with_about, with_end}
 use Rattle.cli.proofs.grammar.command_of.Goals as goal
 

@@ -1,7 +1,6 @@
 -- The arguments that are left lead to the subcommand's grammar.
 use Rattle.std.proofs.Common.{drop}
-use Rattle.cli.specs.Grammar.{with_argument}
-use Rattle.cli.specs.steps.Subcommands.{app_of_subcommand}
+use Rattle.cli.specs.steps.Subcommands.{app_of_subcommand, with_argument}
 use Rattle.cli.proofs.GrammarLemmas.{LeadsTo}
 use Rattle.cli.proofs.grammar.command_of.Given as goal
 

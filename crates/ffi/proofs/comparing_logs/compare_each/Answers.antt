@@ -9,7 +9,7 @@ use Rattle.receiver.specs.Received.{events_in}
 use Rattle.ffi.proofs.ComparedInTurn.{compared_more}
 use Rattle.ffi.proofs.HartsListed.{got_listed, gots_listed}
 use Rattle.ffi.proofs.TextsRead.{AreUpTo, read_none, read_refused, up_to_all, up_to_more}
-use Rattle.ffi.specs.Encoded.{IsLegalText, IsNoLegalText}
+use Rattle.ffi.specs.Encoded.{IsLegalText}
 use Rattle.ffi.specs.declared.fault.Fault.TheVariants.{Memory}
 use Rattle.ffi.specs.steps.Comparing.{AreCompared}
 use Rattle.ffi.proofs.comparing_logs.compare_each.Goals as goal
@@ -23,17 +23,13 @@ loop-place-init c = record {
 
 pub returns-in-Err-clause-refused : goal.returns-in-Err-clause-refused
 returns-in-Err-clause-refused c =
-    read_refused c.args.program.now c.args.logs.now c.args.ends.now c.loop-place.place c.loop-place.from
-    c.loop-place.invariant.logs (slice_index_or c.args.ends.now c.loop-place.place 0) c.in-Err.fault
-    c.loop-place-test.true refl c.loop-place.invariant.read
-    (subst (λ text. IsNoLegalText c.args.program.now text c.in-Err.fault) c.text_between-text.ensures
-    c.in-Err.ensures.fault)
+    read_refused c.args.program.now c.args.logs.now c.args.ends.now c.loop-place.place c.loop-place.from _ _ _
+    c.in-Err.fault c.loop-place-test.true refl c.loop-place.invariant c.text_between-text.ensures c.in-Err.ensures.fault
 
 pub returns-in-Err-push-clause-refused : goal.returns-in-Err-push-clause-refused
 returns-in-Err-push-clause-refused c =
-    read_refused c.args.program.now c.args.logs.now c.args.ends.now c.loop-place.place c.loop-place.from
-    c.loop-place.invariant.logs (slice_index_or c.args.ends.now c.loop-place.place 0) Memory
-    c.loop-place-test.true refl c.loop-place.invariant.read tt
+    read_refused c.args.program.now c.args.logs.now c.args.ends.now c.loop-place.place c.loop-place.from _ _ _ Memory
+    c.loop-place-test.true refl c.loop-place.invariant c.text_between-text.ensures tt
 
 pub loop-place-preserved : goal.loop-place-preserved
 loop-place-preserved c =

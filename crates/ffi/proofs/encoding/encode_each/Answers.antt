@@ -2,7 +2,6 @@
 use Rattle.std.proofs.Common.{◌+◌, ◌++◌, ◌∙◌, [], ap, append-nil, arith, refl, slice_index_or, subst, sym}
 use Rattle.ffi.proofs.LogsAdded.{added_more}
 use Rattle.ffi.proofs.TextsRead.{AreUpTo, read_none, read_refused, up_to_all, up_to_more}
-use Rattle.ffi.specs.Encoded.{IsNoLegalText}
 use Rattle.ffi.specs.declared.fault.Fault.TheVariants.{Memory}
 use Rattle.ffi.specs.steps.Encoding.{AddsLogs, IsEncodedLog}
 use Rattle.ffi.specs.steps.OfTexts.{IsTextOf}
@@ -17,17 +16,13 @@ loop-place-init c = record {
 
 pub returns-in-Err-clause-refused : goal.returns-in-Err-clause-refused
 returns-in-Err-clause-refused c =
-    read_refused c.args.program.now c.args.logs.now c.args.ends.now c.loop-place.place c.loop-place.from
-    c.loop-place.invariant.logs (slice_index_or c.args.ends.now c.loop-place.place 0) c.in-Err.fault
-    c.loop-place-test.true refl c.loop-place.invariant.read
-    (subst (λ text. IsNoLegalText c.args.program.now text c.in-Err.fault) c.text_between-text.ensures
-    c.in-Err.ensures.fault)
+    read_refused c.args.program.now c.args.logs.now c.args.ends.now c.loop-place.place c.loop-place.from _ _ _
+    c.in-Err.fault c.loop-place-test.true refl c.loop-place.invariant c.text_between-text.ensures c.in-Err.ensures.fault
 
 pub returns-in-Err-extend_from_slice-clause-refused : goal.returns-in-Err-extend_from_slice-clause-refused
 returns-in-Err-extend_from_slice-clause-refused c =
-    read_refused c.args.program.now c.args.logs.now c.args.ends.now c.loop-place.place c.loop-place.from
-    c.loop-place.invariant.logs (slice_index_or c.args.ends.now c.loop-place.place 0) Memory
-    c.loop-place-test.true refl c.loop-place.invariant.read tt
+    read_refused c.args.program.now c.args.logs.now c.args.ends.now c.loop-place.place c.loop-place.from _ _ _ Memory
+    c.loop-place-test.true refl c.loop-place.invariant c.text_between-text.ensures tt
 
 pub loop-place-preserved : goal.loop-place-preserved
 loop-place-preserved c =

@@ -4,7 +4,6 @@ use Rattle.std.proofs.lemmas.List.Elements.{All-nil}
 use Rattle.captures.specs.Bounds.{AreWithin, most_counted}
 use Rattle.ffi.proofs.MeasuredInTurn.{measured_more}
 use Rattle.ffi.proofs.TextsRead.{AreUpTo, read_none, read_refused, up_to_all, up_to_more}
-use Rattle.ffi.specs.Encoded.{IsNoLegalText}
 use Rattle.ffi.specs.declared.fault.Fault.TheVariants.{Memory}
 use Rattle.ffi.specs.steps.Measuring.{AreMeasured, IsMeasured}
 use Rattle.ffi.specs.steps.OfTexts.{IsTextOf}
@@ -22,17 +21,13 @@ loop-place-init c = record {
 
 pub returns-in-Err-clause-refused : goal.returns-in-Err-clause-refused
 returns-in-Err-clause-refused c =
-    read_refused c.args.program.now c.args.logs.now c.args.ends.now c.loop-place.place c.loop-place.from
-    c.loop-place.invariant.logs (slice_index_or c.args.ends.now c.loop-place.place 0) c.in-Err.fault
-    c.loop-place-test.true refl c.loop-place.invariant.read
-    (subst (λ text. IsNoLegalText c.args.program.now text c.in-Err.fault) c.text_between-text.ensures
-    c.in-Err.ensures.fault)
+    read_refused c.args.program.now c.args.logs.now c.args.ends.now c.loop-place.place c.loop-place.from _ _ _
+    c.in-Err.fault c.loop-place-test.true refl c.loop-place.invariant c.text_between-text.ensures c.in-Err.ensures.fault
 
 pub returns-in-Err-push-clause-refused : goal.returns-in-Err-push-clause-refused
 returns-in-Err-push-clause-refused c =
-    read_refused c.args.program.now c.args.logs.now c.args.ends.now c.loop-place.place c.loop-place.from
-    c.loop-place.invariant.logs (slice_index_or c.args.ends.now c.loop-place.place 0) Memory
-    c.loop-place-test.true refl c.loop-place.invariant.read tt
+    read_refused c.args.program.now c.args.logs.now c.args.ends.now c.loop-place.place c.loop-place.from _ _ _ Memory
+    c.loop-place-test.true refl c.loop-place.invariant c.text_between-text.ensures tt
 
 pub loop-place-preserved : goal.loop-place-preserved
 loop-place-preserved c =

@@ -1,7 +1,6 @@
 -- SENT is read until nothing more is wanted: by lemmas on what is read, which no tactic finds.
-use Rattle.std.proofs.Common.{ℕ, ◌≡◌, ◌+◌, ◌<◌, ◌≤◌, ◌∙◌, Ok, arith, drop, subst, sym, take, true}
+use Rattle.std.proofs.Common.{ℕ, ◌+◌, ◌≤◌, ◌∙◌, Ok, arith, drop, subst, sym, take}
 use Rattle.live.specs.Following.{AllWanted, Audited}
-use Rattle.live.specs.Holds.{is_wanted}
 use Rattle.live.specs.steps.Looking.{ReadsOne}
 use Rattle.live.proofs.Following.{looked_at, looked_end, wanted_more, wanted_place, whole_turn}
 use Rattle.live.proofs.looking.look.Goals as goal

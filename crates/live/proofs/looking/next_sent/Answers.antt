@@ -1,7 +1,8 @@
 -- The next message of SENT is the first that is left: by a lemma on what is read, which no tactic finds.
-use Rattle.std.proofs.Common.{◌≡◌, ◌∙◌, Err, None, Ok, subst, sym, take}
+use Rattle.std.proofs.Common.{◌≡◌, ◌∙◌, ◌++◌, [], None, Ok, ap, arith, subst, sym, take}
+use Rattle.std.proofs.lemmas.List.{drop_all}
 use Rattle.auditing.specs.Sent.{misplaced}
-use Rattle.live.specs.Following.{IsNext, IsSourceFault}
+use Rattle.live.specs.Following.{IsNext, IsSourceFault, Left}
 use Rattle.live.proofs.Following.{at_end, next_sent, refused_next}
 use Rattle.live.proofs.Reading.{placed_if}
 use Rattle.live.proofs.looking.next_sent.Goals as goal
@@ -31,7 +32,18 @@ returns-in-Ok-None g c = λ all read came front right reads.
     let left = g.S.SentSource.left c.args.source.now in
     let new = g.S.SentSource.left c.next.new.self in
     let none = subst (λ o. IsNext (Ok o) left new) c.in-Ok-None.field-0-is c.in-Ok-None.ensures in
-    (at_end all right read came front c.args.window.now left reads none.0, none.1 ∙ sym none.0 ∙ reads.remains)
+    let end : left.messages ≡ [] = ap (λ (l : Left). l.messages) none.0 in
+    let read_all = at_end all right read came front c.args.window.now left reads end in
+    let remains = sym none.0 ∙ reads.remains in (
+      read_all,
+      none.1 ∙ reads.remains,
+      record {
+        no_more =
+            ap (λ l. l ++ all.rest) (sym (drop_all read all.sent (omega (arith, read_all))))
+            ∙ sym (ap (λ (l : Left). l.messages) remains);
+        no_reason = sym (ap (λ (l : Left). l.ending) remains);
+      },
+    )
 
 pub returns-in-Err : goal.returns-in-Err
 returns-in-Err g c = λ all read came front right reads.

@@ -30,7 +30,7 @@ returns-in_ok-mixing-in-Some-clause-text g c = λ logs are.
     let asked = c.args.asked.now in
     let made = c.args.messages.now in
     let left = messages_of_each asked.period asked.mode (first_hart asked.first) logs in
-    let unmixed = c.in_ok-mixing-in-Some.ensures left (are_mixed asked c.in-Some.seed c.in-Some.is logs made are c.requires.room
+    let unmixed = c.in_ok-mixing-in-Some.ensures.unmixed left (are_mixed asked c.in-Some.seed c.in-Some.is logs made are c.requires.room
     c.requires.few) in
     subst (λ text. OnOk c.write_mixed.result (Appends (g.O.Write.contents c.args.out.now)
     (g.O.Write.contents c.write_mixed.new.out) text))
@@ -42,7 +42,7 @@ returns-in_ok-mixing-in-Some-clause-begun g c = λ logs are.
     let asked = c.args.asked.now in
     let made = c.args.messages.now in
     let left = messages_of_each asked.period asked.mode (first_hart asked.first) logs in
-    let unmixed = c.in_ok-mixing-in-Some.ensures left (are_mixed asked c.in-Some.seed c.in-Some.is logs made are c.requires.room
+    let unmixed = c.in_ok-mixing-in-Some.ensures.unmixed left (are_mixed asked c.in-Some.seed c.in-Some.is logs made are c.requires.room
     c.requires.few) in
     subst (λ text. AppendsBeginning text (g.O.Write.contents c.args.out.now)
     (g.O.Write.contents c.write_mixed.new.out))

@@ -1,6 +1,7 @@
 -- The prover makes no record by itself: what was begun is handed on.
 use Rattle.std.proofs.Common.{subst}
-use Rattle.stimulus.specs.Mixed.{BeginsMixed}
+use Rattle.output.specs.Begun.{AppendsBeginning}
+use Rattle.stimulus.specs.Mixed.{mixed_capture}
 use Rattle.log_commands.proofs.Generated.{keeps_itself, mixed_cut}
 use Rattle.log_commands.proofs.generating.write_mixed.Goals as goal
 
@@ -11,7 +12,7 @@ returns-in_err-write_capture-clause-cut g c =
     let old = g.O.Write.contents c.args.out.now in
     let mid = g.O.Write.contents c.write_capture.new.sink in
     mixed_cut asked program c.args.mix old mid mid
-    (subst (λ made. BeginsMixed program made old mid) c.capture_of.ensures
+    (subst (λ made. AppendsBeginning (mixed_capture program made) old mid) c.capture_of.ensures
     c.write_capture.ensures.begun) (keeps_itself mid)
 
 pub returns-in_err-flush-clause-cut : goal.returns-in_err-flush-clause-cut
@@ -21,7 +22,7 @@ returns-in_err-flush-clause-cut g c =
     let old = g.O.Write.contents c.args.out.now in
     let mid = g.O.Write.contents c.write_capture.new.sink in
     mixed_cut asked program c.args.mix old mid (g.O.Write.contents c.flush.new.self)
-    (subst (λ made. BeginsMixed program made old mid) c.capture_of.ensures
+    (subst (λ made. AppendsBeginning (mixed_capture program made) old mid) c.capture_of.ensures
     c.write_capture.ensures.begun) c.flush.ensures.bytes
 
 pub returns-clause-cut : goal.returns-clause-cut
@@ -31,5 +32,5 @@ returns-clause-cut g c =
     let old = g.O.Write.contents c.args.out.now in
     let mid = g.O.Write.contents c.write_capture.new.sink in
     mixed_cut asked program c.args.mix old mid (g.O.Write.contents c.flush.new.self)
-    (subst (λ made. BeginsMixed program made old mid) c.capture_of.ensures
+    (subst (λ made. AppendsBeginning (mixed_capture program made) old mid) c.capture_of.ensures
     c.write_capture.ensures.begun) c.flush.ensures.bytes

@@ -6,14 +6,14 @@ use Rattle.stimulus.proofs.TurnLemmas.{none_taken, one_taken}
 use Rattle.stimulus.proofs.mixing.take_first.Goals as goal
 
 pub returns-then-place-len : goal.returns-then-place-len
-returns-then-place-len g c = λ messages is ranges.
+returns-then-place-len g c = λ messages fronts.
     let left = c.args.left.now.items in
     let past : length left ≤ c.args.hart =
     omega (arith, c.if-place-len.true, c.len.ensures, c.args.left.now.ok.0, c.from-place.ensures) in
-    none_taken messages c.args.hart left is past
+    none_taken messages c.args.hart left fronts past
 
 pub returns : goal.returns
-returns g c = λ messages is ranges.
+returns g c = λ messages fronts.
     let left = c.args.left.now.items in
     let place = c.from-place.result in
     let hart = c.args.hart in
@@ -21,6 +21,5 @@ returns g c = λ messages is ranges.
     let at = slice_get_read left (length left) place c.index_mut.result.now refl within c.index_mut.ensures.value in
     subst (λ p. TakesFirst messages hart (get_or messages hart []) c.next_of.result (set left p c.next_of.new.own))
     (sym c.from-place.ensures)
-    (one_taken messages hart left c.index_mut.result.now c.next_of.new.own c.next_of.result is ranges
-    (omega (arith, within, c.from-place.ensures))
+    (one_taken messages hart left c.index_mut.result.now c.next_of.new.own c.next_of.result fronts
     (subst (λ p. slice_get left p ≡ Some c.index_mut.result.now) c.from-place.ensures at) c.next_of.ensures.taken)

@@ -28,7 +28,7 @@ returns-clause-text g c = λ seed left is.
     ∙ turns_end text (mixed_from most_turns (unmixed seed left)) c.write_turns.new.self old mid turns in
     subst (λ all. OnOk c.write_left.result (Appends old new all)) (sym ends)
     (ok_behind turns.front (flat_map text (all_left turns.mixed)) old mid new c.write_left.result turns.written
-    (c.write_left.ensures.text turns.mixed.left turns.stands.left turns.stands.ranges))
+    (c.write_left.ensures.text turns.mixed.left turns.stands.left))
 
 pub returns-clause-begun : goal.returns-clause-begun
 returns-clause-begun g c = λ seed left is.
@@ -41,4 +41,4 @@ returns-clause-begun g c = λ seed left is.
     ∙ turns_end text (mixed_from most_turns (unmixed seed left)) c.write_turns.new.self old mid turns in
     subst (λ all. AppendsBeginning all old new) (sym ends)
     (begun_behind turns.front (flat_map text (all_left turns.mixed)) old mid new turns.written
-    (c.write_left.ensures.begun turns.mixed.left turns.stands.left turns.stands.ranges))
+    (c.write_left.ensures.begun turns.mixed.left turns.stands.left))

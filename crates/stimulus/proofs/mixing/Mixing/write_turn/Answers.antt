@@ -13,7 +13,7 @@ use Rattle.stimulus.proofs.mixing.Mixing.write_turn.Goals as goal
 pub returns-in-Some-clause-mixed : goal.returns-in-Some-clause-mixed
 returns-in-Some-clause-mixed g c = λ mixed is.
     let takes = subst (λ taken. TakesFirst mixed.left c.next-hart.result.hart (get_or mixed.left c.next-hart.result.hart []) taken
-    c.take_first.new.left.items) c.in-Some.is (c.take_first.ensures mixed.left is.left is.ranges) in
+    c.take_first.new.left.items) c.in-Some.is (c.take_first.ensures mixed.left is.left) in
     turned_mixing (c.in-Some.message ∷ []) (drawn_of c.next-hart.new.self) (turn mixed) _ refl
     (turned_some mixed c.args.self.now is c.next-hart.result (drawn_of c.next-hart.new.self) c.next-hart.ensures
     c.take_first.new.left.items c.in-Some.message takes)
@@ -21,7 +21,7 @@ returns-in-Some-clause-mixed g c = λ mixed is.
 pub returns-in-Some-clause-text : goal.returns-in-Some-clause-text
 returns-in-Some-clause-text g c = λ mixed is.
     let takes = subst (λ taken. TakesFirst mixed.left c.next-hart.result.hart (get_or mixed.left c.next-hart.result.hart []) taken
-    c.take_first.new.left.items) c.in-Some.is (c.take_first.ensures mixed.left is.left is.ranges) in
+    c.take_first.new.left.items) c.in-Some.is (c.take_first.ensures mixed.left is.left) in
     let turned = turned_some mixed c.args.self.now is c.next-hart.result (drawn_of c.next-hart.new.self) c.next-hart.ensures
     c.take_first.new.left.items c.in-Some.message takes in
     subst (λ text. OnOk c.write.result (Appends (g.W.Write.contents c.args.sink.now)
@@ -32,7 +32,7 @@ returns-in-Some-clause-text g c = λ mixed is.
 pub returns-in-Some-clause-begun : goal.returns-in-Some-clause-begun
 returns-in-Some-clause-begun g c = λ mixed is.
     let takes = subst (λ taken. TakesFirst mixed.left c.next-hart.result.hart (get_or mixed.left c.next-hart.result.hart []) taken
-    c.take_first.new.left.items) c.in-Some.is (c.take_first.ensures mixed.left is.left is.ranges) in
+    c.take_first.new.left.items) c.in-Some.is (c.take_first.ensures mixed.left is.left) in
     let turned = turned_some mixed c.args.self.now is c.next-hart.result (drawn_of c.next-hart.new.self) c.next-hart.ensures
     c.take_first.new.left.items c.in-Some.message takes in
     subst (λ text. AppendsBeginning text (g.W.Write.contents c.args.sink.now) (g.W.Write.contents c.write.new.sink))
@@ -42,7 +42,7 @@ returns-in-Some-clause-begun g c = λ mixed is.
 pub returns-in-None-clause-mixed : goal.returns-in-None-clause-mixed
 returns-in-None-clause-mixed g c = λ mixed is.
     let takes = subst (λ taken. TakesFirst mixed.left c.next-hart.result.hart (get_or mixed.left c.next-hart.result.hart []) taken
-    c.take_first.new.left.items) c.in-None.is (c.take_first.ensures mixed.left is.left is.ranges) in
+    c.take_first.new.left.items) c.in-None.is (c.take_first.ensures mixed.left is.left) in
     turned_mixing [] (leaves c.next-hart.result.hart (drawn_of c.next-hart.new.self)) (turn mixed) _ c.leave.ensures
     (turned_none mixed c.args.self.now is c.next-hart.result (drawn_of c.next-hart.new.self) c.next-hart.ensures
     c.take_first.new.left.items takes)
@@ -50,7 +50,7 @@ returns-in-None-clause-mixed g c = λ mixed is.
 pub returns-in-None-clause-text : goal.returns-in-None-clause-text
 returns-in-None-clause-text g c = λ mixed is.
     let takes = subst (λ taken. TakesFirst mixed.left c.next-hart.result.hart (get_or mixed.left c.next-hart.result.hart []) taken
-    c.take_first.new.left.items) c.in-None.is (c.take_first.ensures mixed.left is.left is.ranges) in
+    c.take_first.new.left.items) c.in-None.is (c.take_first.ensures mixed.left is.left) in
     turned_nothing g.F.Form.text (leaves c.next-hart.result.hart (drawn_of c.next-hart.new.self)) c.take_first.new.left.items
     (turn mixed) (g.W.Write.contents c.args.sink.now)
     (turned_none mixed c.args.self.now is c.next-hart.result (drawn_of c.next-hart.new.self) c.next-hart.ensures

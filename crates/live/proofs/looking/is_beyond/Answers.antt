@@ -1,0 +1,22 @@
+-- Where a message is: by what was read, which no tactic puts together.
+use Rattle.std.proofs.Common.{◌∙◌, ap, take}
+use Rattle.live.specs.Live.{is_beyond}
+use Rattle.live.specs.View.{standing_of}
+use Rattle.live.proofs.looking.is_beyond.Goals as goal
+
+pub returns-in-Ok : goal.returns-in-Ok
+returns-in-Ok g c = λ all read state right reads.
+    let message = c.args.message.now in
+    let looked = c.in-Ok.ensures all read state.came state.front right reads in
+    let some = take looked.read all.sent in (
+      c.is_beyond.ensures
+          ∙ ap is_beyond
+          (c.find.ensures.standing some state.came state.front looked.reads.holds
+          ∙ ap (λ w. standing_of w some state.front message.hart message.number) looked.reads.window ∙ looked.settled),
+      (looked.read, looked.reads),
+    )
+
+pub returns-in-Err : goal.returns-in-Err
+returns-in-Err g c = λ all read state right reads.
+    let stopped = c.in-Err.ensures all read state.came state.front right reads in
+    (stopped.read, stopped.fault)

@@ -1,0 +1,39 @@
+//! Who is handed the lines of a live audit.
+
+ghost use Rattle.std.specs.Prelude.{◌++◌, List, [], ◌∷◌};
+ghost use Rattle.live.specs.Lines.{Line, Decided, GivenUp, Missing, TooLate};
+
+use crate::arrived::Arrived;
+use crate::held::SentMessage;
+use auditing::{Finding, Lost};
+
+/// Is handed the lines of a live audit, one after the other.
+///
+/// No call returns a fault. Who cannot go on keeps that, passes over what follows, and is asked after each message.
+pub trait LiveLines {
+    /// What was told between two states.
+    ghost Told: { Self → List Line → Self → Type 0 };
+
+    /// Of a message of RECEIVED this is found.
+    fn decided(&mut self, one: &Arrived, finding: Finding)
+        ensures { Told self.old (Decided one.now finding ∷ []) self.new };
+
+    /// A message of RECEIVED is too late.
+    fn too_late(&mut self, one: &Arrived)
+        ensures { Told self.old (TooLate one.now ∷ []) self.new };
+
+    /// A message of SENT is given up: it came or not.
+    fn given_up(&mut self, slot: &SentMessage)
+        ensures { Told self.old (GivenUp slot.now ∷ []) self.new };
+
+    /// These numbers of a hart are lost: each of them was given up.
+    fn missing(&mut self, hart: u16, lost: Lost)
+        ensures { Told self.old (Missing hart lost ∷ []) self.new };
+
+    /// Between a state and itself nothing was told.
+    ghost nothing: { (lines : Self) → Told lines [] lines };
+
+    /// What was told up to a state comes before what was told from there.
+    ghost joined: { (first between last : Self) (before after : List Line) → Told first before between
+        → Told between after last → Told first (before ++ after) last };
+}
