@@ -271,9 +271,6 @@ module _ (all : Audited) (right : IsAudited all) (read : ℕ) (state : State) (l
           subst (λ (m : Message). m.number + 1 < 2 ^ 64) (sym its.4) (omega (arith, low, few)),
         )
 
-    pub pass_runs : runs_in own.runs ≡ moved.runs
-    pass_runs = goes.stands.runs
-
     -- What was given up is told.
     pub pass_some : (slot : SentMessage) → given ≡ Some slot → (runs : List Run) → length runs ≡ length own.runs
         → runs_in runs ≡ (gives moved slot).state.runs → (All : List Line → Type 0)

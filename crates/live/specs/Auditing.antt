@@ -33,7 +33,7 @@ run_at (Some run) = run
 abbrev pub runs_in : List Run → ℕ → Run
 runs_in runs hart = run_at (slice_get runs hart)
 
--- This is held in a state, after so many messages of SENT were read and where these are left of it and what follows it.
+-- What is held agrees with a state. So many messages of SENT were read, and the others are left, with why SENT ends.
 -- The message of a hart that waits is one of that hart. There is a window, and there are no more harts than numbers for them.
 pub record Stands (all : Audited) (read : ℕ) (state : State) (own : LiveHolding) (left : Left) : Type 0 where
   pub reads : Reads all read state.came state.front own.window left
@@ -45,7 +45,7 @@ pub record Stands (all : Audited) (read : ℕ) (state : State) (own : LiveHoldin
   pub some : 1 ≤ all.window
   pub few : all.harts ≤ 2 ^ 16
 
--- A step was made, and its lines were told: this is held then, where so many messages of SENT were read.
+-- A step was made, and its lines were handed over. This is held then, where so many messages of SENT were read.
 pub record GoesTo (all : Audited) (read : ℕ) (Told : List Line → Type 0) (step : Step) (own : LiveHolding)
     (left : Left) : Type 0 where
   pub stands : Stands all read step.state own left
@@ -55,7 +55,7 @@ pub record GoesTo (all : Audited) (read : ℕ) (Told : List Line → Type 0) (st
 abbrev pub Goes : Audited → (List Line → Type 0) → Step → LiveHolding → Left → Type 0
 Goes all Told step own left = (read : ℕ) × GoesTo all read Told step own left
 
--- SENT could not be read on in a step: the first of its lines were told.
+-- SENT could not be read on in a step: lines that its own begin with were handed over.
 pub record Stops (all : Audited) (Told : List Line → Type 0) (step : Step) (why : LookFault) : Type 0 where
   pub read : ℕ
   pub fault : IsLookFault all read why
@@ -74,13 +74,13 @@ Went all Told step (Err why) own left = Stops all Told step why
 abbrev pub moves_near : Audited → ℕ → State → Step
 moves_near all read state = moves_to all.window all.sent (read - all.window) state
 
--- SENT could not be read on in a step that begins in a state: what was told are the lines of the front's way to a window
--- before the message that was not read.
+-- SENT could not be read on in a step that begins in a state. The lines of the front's way to a window before the message
+-- that was not read were handed over.
 abbrev pub StopsNear : Audited → (List Line → Type 0) → State → Step → LookFault → Type 0
 StopsNear all Told state step why =
     (stops : Stops all Told step why) × (stops.first ≡ (moves_near all stops.read state).lines)
 
--- What is left was told, and SENT has no fault; or it could not be read on.
+-- The lines that are left were handed over, and SENT has no fault; or it could not be read on.
 abbrev pub Ended : {U : Type 0} → Audited → (List Line → Type 0) → State → Result U LookFault → Type 0
 Ended all Told state (Ok done) = Told (finished all.harts all.window all.sent state).lines × EndsWell all
 Ended all Told state (Err why) = StopsNear all Told state (finished all.harts all.window all.sent state) why

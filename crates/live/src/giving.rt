@@ -1,4 +1,4 @@
-//! Messages of SENT are given up, and what is left is told.
+//! Messages of SENT are given up, and the lines that are left are handed over.
 
 ghost use Rattle.std.specs.Prelude.{◌≡◌, ◌^◌, ◌≤◌, length};
 ghost use Rattle.live.specs.Auditing.{runs_in};

@@ -11,7 +11,7 @@ use auditing::{Finding, Lost};
 ///
 /// No call returns a fault. Who cannot go on keeps that, passes over what follows, and is asked after each message.
 pub trait LiveLines {
-    /// What was told between two states.
+    /// The lines that were handed over between two states.
     ghost Told: { Self → List Line → Self → Type 0 };
 
     /// Of a message of RECEIVED this is found.
@@ -30,10 +30,10 @@ pub trait LiveLines {
     fn missing(&mut self, hart: u16, lost: Lost)
         ensures { Told self.old (Missing hart lost ∷ []) self.new };
 
-    /// Between a state and itself nothing was told.
+    /// Between a state and itself no line was.
     ghost nothing: { (lines : Self) → Told lines [] lines };
 
-    /// What was told up to a state comes before what was told from there.
+    /// Lines handed over up to a state come before those from there.
     ghost joined: { (first between last : Self) (before after : List Line) → Told first before between
         → Told between after last → Told first (before ++ after) last };
 }

@@ -221,7 +221,7 @@ impl<A: Allocator> LiveAudit<A> {
         Err(LookFault::Source(SourceFault::Memory))
     }
 
-    /// After an outage between two messages of a hart SENT is read to the first of them.
+    /// If the path was out between two messages of a hart, SENT is read to the first of them.
     fn go_on<S: SentSource, L: LiveLines>(
         &mut self,
         first: &Message,
@@ -342,10 +342,11 @@ impl<A: Allocator> LiveAudit<A> {
         }
     }
 
-    /// Takes the next message of RECEIVED: what waits of its hart is decided, and then it is looked up itself. What is
-    /// decided is told. SENT is read as far as it is looked at. Takes no memory.
+    /// Takes the next message of RECEIVED: what waits of its hart is decided, and then it is looked up itself. The lines
+    /// of what is decided are handed over. Takes no memory.
     ///
-    /// If SENT cannot be read on, the lines so far were told. Nothing is taken after that.
+    /// If SENT cannot be read on, a beginning of these lines was handed over. How much of them, how far SENT is read, and
+    /// what a call after that does is in no clause.
     pub fn take<S: SentSource, L: LiveLines>(
         &mut self,
         one: Arrived,
@@ -364,7 +365,7 @@ impl<A: Allocator> LiveAudit<A> {
         Ok(())
     }
 
-    /// What is told where SENT was read to its end.
+    /// The lines that are left are handed over, where SENT was read to its end.
     fn finish<L: LiveLines>(&mut self, lines: &mut L)
         ensures { (all : Audited) (state : State) (left : Left) → IsAudited all
             → Stands all (length all.sent) state self.old left
@@ -377,7 +378,8 @@ impl<A: Allocator> LiveAudit<A> {
         tell_runs(&self.runs, lines);
     }
 
-    /// RECEIVED has ended: SENT is read to its end, and what is left is told. Nothing is taken after that.
+    /// RECEIVED has ended: SENT is read to its end, and the lines that are left are handed over. What a call after that does
+    /// is in no clause.
     pub fn end<S: SentSource, L: LiveLines>(
         &mut self,
         source: &mut S,

@@ -187,7 +187,7 @@ impl<A: Allocator> Window<A> {
         self.slots.len().saturating_sub(self.near)
     }
 
-    /// Whether two numbers differ by 1 to a window.
+    /// Whether two numbers differ, and by a window at most.
     pub(crate) fn is_near(&self, number: u64, other: u64) -> bool
         ensures { result ≡ are_near self.now.window number other }
     {

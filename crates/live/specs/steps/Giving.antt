@@ -1,4 +1,4 @@
--- Messages of SENT are given up, and what is left is told.
+-- Messages of SENT are given up, and the lines that are left are handed over.
 use Rattle.std.specs.Prelude.{ℕ, ◌≡◌, ◌+◌, ◌-◌, ◌^◌, ◌<◌, ◌==◌, Bool, if◌then◌else◌, List, [], Option, Some, None, length}
 use Rattle.std.specs.List.{AllByRecursion, flat_map, range_with_len}
 use Rattle.auditing.specs.declared.lost.Lost.{Lost}
@@ -26,7 +26,7 @@ IsCounted harts slot = (slot.message.hart < harts) × (slot.message.number + 1 <
 abbrev pub AreCounted : ℕ → List SentMessage → Type 0
 AreCounted harts slots = AllByRecursion (IsCounted harts) slots
 
--- The runs after a step, whose lines were told.
+-- The runs after a step, whose lines were handed over.
 abbrev pub IsGiven : (List Line → Type 0) → Step → List Run → Type 0
 IsGiven Told step runs = Told step.lines × (runs_in runs ≡ step.state.runs)
 

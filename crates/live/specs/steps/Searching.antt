@@ -13,7 +13,7 @@ is_slot hart number (Some slot) = is_numbered hart number slot.message
 abbrev pub is_at : List SentMessage → ℕ → ℕ → ℕ → Bool
 is_at slots hart number place = is_slot hart number (slice_get slots place)
 
--- There is a message of SENT, of this hart and with this number.
+-- The message of SENT, if there is one, is of this hart and has this number.
 abbrev pub is_one : ℕ → ℕ → Option Message → Bool
 is_one hart number None = false
 is_one hart number (Some message) = is_numbered hart number message
