@@ -127,6 +127,13 @@ pub fn same(number: u32) -> u32
 {
     number
 }
+
+/// Gives it back by another call.
+pub fn again(number: u32) -> u32
+    ensures { result ≡ number }
+{
+    same(number)
+}
 """
 
 
@@ -140,8 +147,9 @@ def written(path, text):
 class OfGate(unittest.TestCase):
     """Edits over what `rt ci` proved, of a crate that has no other below it."""
 
-    def tried(self, body, times=1):
-        """What is said of an edit with another body, and whether it is refused, the last of so many times."""
+    def tried(self, body, times=1, caller=None):
+        """What is said of an edit with another body, and of one of the function that calls it, if there is one; and whether
+        all are refused, the last of so many times."""
         edits, here = script(f"{CHECKS}/long-edits/long-edits"), os.getcwd()
         rt = script(f"{TOP}/tools/from-gate").kit(used=edits.USED)
         with tempfile.TemporaryDirectory() as folder:
@@ -150,7 +158,9 @@ class OfGate(unittest.TestCase):
                 written(f"{folder}/{name}/crates.txt", "low:\n")
                 written(f"{folder}/{name}/HANDLES", "Handles allowed: none.\n")
                 written(f"{folder}/{name}/crates/low/src/lib.rt", SMALL)
-            written(f"{folder}/checkout/crates/low/must-fail/another.edit", f"file: src/lib.rt\nold:     number\nnew:     {body}\n")
+            for name, old, new in [("another", "number", body)] + [("caller", "same(number)", caller)] * bool(caller):
+                text = f"file: src/lib.rt\nold:     {old}\nnew:     {new}\n"
+                written(f"{folder}/checkout/crates/low/must-fail/{name}.edit", text)
             for _ in range(times):
                 with redirect_stdout(io.StringIO()) as said:
                     is_refused = edits.try_those_of_gate(f"{folder}/copy", 1, f"{folder}/checkout", rt)
@@ -174,4 +184,16 @@ class OfGate(unittest.TestCase):
         said, is_refused = self.tried("number + 0", times=2)
         self.assertIn("must-fail low/another.edit: NOT REFUSED", said)
         self.assertIn("0 of 1 edits refused, 0 of them by an earlier run", said)
+        self.assertFalse(is_refused)
+
+    def test_a_caller_is_refused_for_its_own_body(self):
+        said, is_refused = self.tried("number / 2", caller="if number == 7 { return 8; } same(number)")
+        self.assertIn("must-fail low/caller.edit: refused: fn low::again: no proof: expected answers", said)
+        self.assertIn("2 of 2 edits refused", said)
+        self.assertTrue(is_refused)
+
+    def test_a_caller_that_is_right_is_told(self):
+        said, is_refused = self.tried("number / 2", caller="same(number + 0)")
+        self.assertIn("must-fail low/another.edit: refused", said)
+        self.assertIn("must-fail low/caller.edit: NOT REFUSED", said)
         self.assertFalse(is_refused)

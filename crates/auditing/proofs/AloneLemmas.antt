@@ -2,6 +2,7 @@
 use Rattle.std.proofs.Common.{◌≡◌, ◌≢◌, ℕ, zero, suc, List, [], ◌∷◌, Bool, true, false, Option, Some, None, cond, eqb}
 use Rattle.std.proofs.Common.{slice_get, set, refl, sym, ap, subst, ◌∙◌}
 use Rattle.std.proofs.lemmas.Bool.{eqb-true, eqb-false}
+use Rattle.auditing.proofs.Counting.{set_other}
 use Rattle.payload.specs.ClosedTrace.{last_is_closing}
 use Rattle.payload.specs.declared.mode.Mode.{Mode}
 use Rattle.rvclass.specs.Words.{Words}
@@ -21,14 +22,6 @@ slice_get-written : {X : Type 0} (xs : List X) (i : ℕ) (x y : X) → slice_get
 slice_get-written [] i x y is = cc
 slice_get-written (a ∷ xs) zero x y is = refl
 slice_get-written (a ∷ xs) (suc i) x y is = slice_get-written xs i x y is
-
--- An element beside the one that was written.
-slice_get-beside : {X : Type 0} (xs : List X) (i j : ℕ) (y : X) → i ≢ j → slice_get (set xs i y) j ≡ slice_get xs j
-slice_get-beside [] i j y other = refl
-slice_get-beside (a ∷ xs) zero zero y other = absurd (other refl)
-slice_get-beside (a ∷ xs) zero (suc j) y other = refl
-slice_get-beside (a ∷ xs) (suc i) zero y other = refl
-slice_get-beside (a ∷ xs) (suc i) (suc j) y other = slice_get-beside xs i j y (λ same. other (ap suc same))
 
 -- After a message the same is expected of its hart, where the same was before.
 own_message : (a b : Harts) (m : Message) → slice_get a m.hart ≡ slice_get b m.hart
@@ -56,7 +49,7 @@ other_message a m hart other = go (slice_get a m.hart)
   where
     go : (o : Option Hart) → slice_get (harts_after_found a m o) hart ≡ slice_get a hart
     go None = refl
-    go (Some h) = slice_get-beside a m.hart hart (state_after h m) other
+    go (Some h) = set_other a m.hart hart (state_after h m) other
 
 -- What is expected of a hart after messages is what is expected after its own ones.
 expected_alone : (hart : ℕ) (messages : List Message) (a b : Harts) → slice_get a hart ≡ slice_get b hart

@@ -1,6 +1,6 @@
 -- The counts of a hart, where one more message came.
-use Rattle.std.proofs.Common.{◌≡◌, ◌≢◌, ℕ, ◌+◌, true, false, cond, eqb, List, [], ◌∷◌, ◌++◌, length, refl}
-use Rattle.std.proofs.Common.{sym, ap, ◌∙◌, arith, add-zero}
+use Rattle.std.proofs.Common.{◌≡◌, ◌≢◌, ℕ, ◌+◌, true, false, cond, eqb, List, [], ◌∷◌, ◌++◌, length, refl, sym, ap, ◌∙◌}
+use Rattle.std.proofs.Common.{arith, add-zero, Bool}
 use Rattle.std.specs.Prelude.{◌&&◌}
 use Rattle.std.proofs.lemmas.Bool.{eq-eqb, ne_eqb}
 use Rattle.std.proofs.lemmas.List.{length_push}
@@ -13,6 +13,7 @@ use Rattle.auditing.specs.Fates.{fate_of}
 use Rattle.auditing.specs.Judged.{Judged, fates_counted, is_fate, strangers_in}
 use Rattle.auditing.specs.declared.fate.Fate.{Fate}
 use Rattle.auditing.specs.declared.fate.Fate.TheVariants as fate
+use Rattle.auditing.specs.declared.tally.Counts.{Counts}
 use Rattle.auditing.specs.steps.Taking.{counted, one_more, strangers_after}
 
 -- One more, where the greatest count stays.
@@ -36,14 +37,16 @@ module _ (sent received : List Message) (message : Message) (its : Fate) (is : f
       1 0) (eq-eqb message.hart message.hart refl)
       ∙ ap (λ f. fates_counted sent received message.hart fate + cond (is_fate fate f) 1 0) is
 
-  grows : (fate : Fate) → is_fate fate its ≡ true
-      → one_more (capped (fates_counted sent received message.hart fate))
-      ≡ capped (fates_counted sent more message.hart fate)
-  grows fate same = capped_more _ _ (own fate ∙ ap (λ b. fates_counted sent received message.hart fate + cond b 1 0) same)
-
-  stays : (fate : Fate) → is_fate fate its ≡ false
-      → capped (fates_counted sent received message.hart fate) ≡ capped (fates_counted sent more message.hart fate)
-  stays fate other = capped_same _ _ (own fate ∙ ap (λ b. fates_counted sent received message.hart fate + cond b 1 0) other)
+  next : (fate : Fate) → cond (is_fate fate its) (one_more (capped (fates_counted sent received message.hart fate)))
+      (capped (fates_counted sent received message.hart fate)) ≡ capped (fates_counted sent more message.hart fate)
+  next fate = go (is_fate fate its) (own fate)
+    where
+      go : (b : Bool)
+          → fates_counted sent more message.hart fate ≡ fates_counted sent received message.hart fate + cond b 1 0
+          → cond b (one_more (capped (fates_counted sent received message.hart fate)))
+          (capped (fates_counted sent received message.hart fate)) ≡ capped (fates_counted sent more message.hart fate)
+      go true e = capped_more _ _ e
+      go false e = capped_same _ _ e
 
   came : one_more (capped (length (of_hart message.hart received))) ≡ capped (length (of_hart message.hart more))
   came = capped_more _ _ (ap length (of_hart-next received message) ∙ length_push (of_hart message.hart received) message)
@@ -69,45 +72,32 @@ module _ (sent received : List Message) (message : Message) (its : Fate) (is : f
           at fate.Late e = capped_same _ _ e
           at fate.InOrder e = capped_same _ _ e
 
+-- The counts after one more message of a fate, field by field.
+counted_by : (counts : Counts) (its : Fate) → counted counts its ≡ record {
+  came = one_more counts.came;
+  strange = cond (is_fate fate.Stranger its) (one_more counts.strange) counts.strange;
+  changed = cond (is_fate fate.Changed its) (one_more counts.changed) counts.changed;
+  repeated = cond (is_fate fate.Repeat its) (one_more counts.repeated) counts.repeated;
+  late = cond (is_fate fate.Late its) (one_more counts.late) counts.late;
+}
+counted_by counts fate.Stranger = refl
+counted_by counts fate.Changed = refl
+counted_by counts fate.Repeat = refl
+counted_by counts fate.Late = refl
+counted_by counts fate.InOrder = refl
+
 -- The counts of the message's hart.
 pub counts-next : (sent received : List Message) (message : Message) (its : Fate)
     → fate_of sent received message ≡ its
     → counted (counts_of sent received message.hart) its ≡ counts_of sent (received ++ message ∷ []) message.hart
-counts-next sent received message fate.Stranger is = λ i. record {
-  came = came sent received message fate.Stranger is i;
-  strange = grows sent received message fate.Stranger is fate.Stranger refl i;
-  changed = stays sent received message fate.Stranger is fate.Changed refl i;
-  repeated = stays sent received message fate.Stranger is fate.Repeat refl i;
-  late = stays sent received message fate.Stranger is fate.Late refl i;
-}
-counts-next sent received message fate.Changed is = λ i. record {
-  came = came sent received message fate.Changed is i;
-  strange = stays sent received message fate.Changed is fate.Stranger refl i;
-  changed = grows sent received message fate.Changed is fate.Changed refl i;
-  repeated = stays sent received message fate.Changed is fate.Repeat refl i;
-  late = stays sent received message fate.Changed is fate.Late refl i;
-}
-counts-next sent received message fate.Repeat is = λ i. record {
-  came = came sent received message fate.Repeat is i;
-  strange = stays sent received message fate.Repeat is fate.Stranger refl i;
-  changed = stays sent received message fate.Repeat is fate.Changed refl i;
-  repeated = grows sent received message fate.Repeat is fate.Repeat refl i;
-  late = stays sent received message fate.Repeat is fate.Late refl i;
-}
-counts-next sent received message fate.Late is = λ i. record {
-  came = came sent received message fate.Late is i;
-  strange = stays sent received message fate.Late is fate.Stranger refl i;
-  changed = stays sent received message fate.Late is fate.Changed refl i;
-  repeated = stays sent received message fate.Late is fate.Repeat refl i;
-  late = grows sent received message fate.Late is fate.Late refl i;
-}
-counts-next sent received message fate.InOrder is = λ i. record {
-  came = came sent received message fate.InOrder is i;
-  strange = stays sent received message fate.InOrder is fate.Stranger refl i;
-  changed = stays sent received message fate.InOrder is fate.Changed refl i;
-  repeated = stays sent received message fate.InOrder is fate.Repeat refl i;
-  late = stays sent received message fate.InOrder is fate.Late refl i;
-}
+counts-next sent received message its is =
+    counted_by (counts_of sent received message.hart) its ∙ (λ i. record {
+      came = came sent received message its is i;
+      strange = next sent received message its is fate.Stranger i;
+      changed = next sent received message its is fate.Changed i;
+      repeated = next sent received message its is fate.Repeat i;
+      late = next sent received message its is fate.Late i;
+    })
 
 -- The counts of another hart.
 pub counts-other : (sent received : List Message) (message : Message) (hart : ℕ) → message.hart ≢ hart

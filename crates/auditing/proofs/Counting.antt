@@ -7,7 +7,7 @@ use Rattle.std.proofs.lemmas.Bool.{cases_eq, cases_lt, le-ltb, lt-ltb}
 use Rattle.std.proofs.lemmas.List.{length_push, length-replicate, get_or-replicate}
 use Rattle.std.proofs.lemmas.List.Elements.{All-nil, All-push}
 use Rattle.std.proofs.lemmas.List.Sums.{count_by-le-length, length-filter}
-use Rattle.std.proofs.lemmas.Option.{slice_get-get_or, slice_get_past, slice_get_within}
+use Rattle.std.proofs.lemmas.Option.{slice_get-get_or, slice_get_past, slice_get_within, get_or_from_slice_get}
 use Rattle.captures.proofs.Reaching.{capture_next}
 use Rattle.captures.specs.NoMessage.{BeginsNone}
 use Rattle.message.proofs.OfHartLemmas.{of_hart-next, of_hart-other}
@@ -34,13 +34,6 @@ set_other (x ∷ xs) zero zero y other = absurd (other refl)
 set_other (x ∷ xs) zero (suc j) y other = refl
 set_other (x ∷ xs) (suc i) zero y other = refl
 set_other (x ∷ xs) (suc i) (suc j) y other = set_other xs i j y (λ same. other (ap suc same))
-
--- What is found at a place stands there.
-found_or : (xs : List ℕ) (i x : ℕ) → slice_get xs i ≡ Some x → get_or xs i 0 ≡ x
-found_or [] zero x is = cc
-found_or [] (suc i) x is = cc
-found_or (y ∷ ys) zero x is = cc
-found_or (y ∷ ys) (suc i) x is = found_or ys i x is
 
 -- Before the first message nothing is counted.
 pub counted_none : (harts : ℕ) (bytes : List ℕ) → HasCounted harts bytes bytes (replicate harts 0) 0 0
@@ -116,7 +109,7 @@ counted_more harts bytes left next counts more highest higher number m has few s
     stands = next_is (slice_get counts m.hart) m.number placed
 
     counts_now : more ≡ set counts m.hart (min (m.number + 1) (2 ^ 64 - 1))
-    counts_now = counts_are ∙ ap (λ n. set counts m.hart (min (n + 1) (2 ^ 64 - 1))) (found_or counts m.hart m.number stands)
+    counts_now = counts_are ∙ ap (λ n. set counts m.hart (min (n + 1) (2 ^ 64 - 1))) (get_or_from_slice_get counts m.hart m.number 0 stands)
 
     known : m.hart < length counts
     known = slice_get_within counts m.hart m.number stands

@@ -1,7 +1,6 @@
 -- A capture with the same messages of each hart decodes to the same logs.
-use Rattle.std.proofs.Common.{◌≡◌, ◌⊎◌, inl, inr, ℕ, suc, ◌<◌, All, Bool, true, false, cond, eqb, List, []}
-use Rattle.std.proofs.Common.{◌∷◌, ◌++◌, Option, Some, None, Result, Ok, Err, length, slice_get, refl, sym, ap, ap₂, subst}
-use Rattle.std.proofs.Common.{◌∙◌, arith, append-nil}
+use Rattle.std.proofs.Common.{◌≡◌, ◌⊎◌, inl, inr, ℕ, suc, ◌<◌, All, Bool, List, [], ◌∷◌, ◌++◌, Option, Some, None, Ok}
+use Rattle.std.proofs.Common.{length, slice_get, refl, sym, ap, ap₂, subst, ◌∙◌, arith, append-nil}
 use Rattle.std.specs.Prelude.{IsOk}
 use Rattle.std.proofs.lemmas.Bool.{true≢false}
 use Rattle.std.proofs.lemmas.List.{append_assoc, append_cancel_left, map-append}
@@ -17,12 +16,11 @@ use Rattle.payload.specs.declared.packet.Packet.{Packet}
 use Rattle.decoder.proofs.ExtendingLemmas.{front_describes}
 use Rattle.decoder.proofs.UniqueLemmas.{one_log}
 use Rattle.decoder.specs.Describes.{Describes}
-use Rattle.decoder.specs.declared.fault.DecodeFault.{DecodeFault}
 use Rattle.decoder.specs.declared.fault.DecodeFault.TheVariants.{Memory}
 use Rattle.message.proofs.AcceptedLemmas.{accepted_counted, answered}
 use Rattle.message.proofs.Answering.{answer-unpacked}
 use Rattle.message.proofs.Elements.{slice_get-some}
-use Rattle.message.proofs.HartMessages.{expected_of, packets_in-append, packets_in-cons, packets_of-append}
+use Rattle.message.proofs.HartMessages.{expected_of, packets_in-cons, packets_of-append}
 use Rattle.message.proofs.OfHartLemmas.{of_hart-append, of_hart-own}
 use Rattle.message.proofs.Selecting.{all_selected}
 use Rattle.message.proofs.StartsRead.{header_only}
@@ -34,7 +32,6 @@ use Rattle.message.specs.Harts.{Harts}
 use Rattle.message.specs.Header.{header_bytes, setting_bytes}
 use Rattle.message.specs.OfHart.{of_hart, packets_in, packets_of}
 use Rattle.message.specs.Range.{every_hart, selected}
-use Rattle.message.specs.declared.fault.DemuxFault.{DemuxFault}
 use Rattle.message.specs.declared.fault.MessageFault.{MessageFault}
 use Rattle.message.specs.declared.fault.MessageFault.TheVariants as message_fault
 use Rattle.message.specs.declared.hart.Hart.{Hart}
@@ -67,13 +64,6 @@ All-first : {X : Type 0} (P : X → Type 0) (front rest : List X) → All P (fro
 All-first P front rest all =
     subst (All P) (take-append_seam front rest) (All-take P (length front) (front ++ rest) all)
 
--- An answer is one packet, and no fault.
-one_packet : (p q : Packet) (r : Result Packet DemuxFault) → r ≡ Ok p → r ≡ Ok q → p ≡ q
-one_packet p q r one other = cc
-
-never_refused : (p : Packet) (why : DemuxFault) (r : Result Packet DemuxFault) → r ≡ Ok p → r ≡ Err why → ⊥
-never_refused p why r one other = cc
-
 -- Of messages that are accepted each in its turn, each is accepted behind those before it.
 accepted_at : (expected : Harts) (front : List Message) (message : Message) (back : List Message)
     → AreAccepted expected (front ++ message ∷ back)
@@ -100,10 +90,7 @@ known_hart harts front message packet all is = go (slice_get (expected_after (ne
     counted = (accepted_counted harts front all).count
 
     go : (o : Option Hart) → slice_get (expected_after (newcomers harts) front) message.hart ≡ o → message.hart < harts
-    go None none = absurd (never packet (sym (ap (λ o. answer_of o message) none) ∙ is))
-      where
-        never : (p : Packet) → answer_of None message ≡ Ok p → ⊥
-        never p e = cc
+    go None none = cc (sym (ap (λ o. answer_of o message) none) ∙ is)
     go (Some h) some =
         let within = slice_get_within (expected_after (newcomers harts) front) message.hart h some in
         omega (arith, within, counted)
@@ -246,7 +233,7 @@ module _ (words : Words) (program : IsProgram words) (harts : ℕ) (announced : 
       → IsNotReceived words harts announced front message why → why ≡ receiving.Decode Memory
   not_refused front message back (receiving.Demux why) whole before refused =
       let goes_on = goes front back message whole in
-      absurd (never_refused goes_on.packet why _ (goes_on.taken before) refused)
+      cc (sym (goes_on.taken before) ∙ refused)
   not_refused front message back receiving.Mode whole before refused =
       let goes_on = goes front back message whole in
       let read : reading message.payload ≡ Ok refused.packet = read_of refused.packet refused.accepted in
@@ -264,7 +251,7 @@ module _ (words : Words) (program : IsProgram words) (harts : ℕ) (announced : 
       goes_on = goes front back message whole
 
       same_packet : goes_on.packet ≡ refused.0.packet
-      same_packet = one_packet goes_on.packet refused.0.packet _ (goes_on.taken before) refused.0.accepted
+      same_packet = cc (sym (goes_on.taken before) ∙ refused.0.accepted)
 
       go : (why ≡ Memory)
           ⊎ ((log : List Event) → ¬ Describes words (packets_of message.hart front ++ refused.0.packet ∷ []) log)
@@ -332,27 +319,17 @@ module _ (words : Words) (program : IsProgram words) (harts : ℕ) (announced : 
       accepted_all : AreAccepted (newcomers harts) is.messages
       accepted_all = subst (AreAccepted (newcomers harts)) every is.accepted
 
-      clash_demux : (why : DemuxFault) → receiving.Demux why ≡ receiving.Decode Memory → ⊥
-      clash_demux why e = cc
-
-      clash_mode : receiving.Mode ≡ receiving.Decode Memory → ⊥
-      clash_mode e = cc
-
-      same_why : (why : DecodeFault) → receiving.Decode why ≡ receiving.Decode Memory → why ≡ Memory
-      same_why why e = cc
-
       by_fault : (f : CaptureFault) → ((why : MessageFault) → f ≡ fault.Message why → ⊥)
           → StopsDecodingOf every_hart words harts announced is.messages is.rest f → IsMemory f
       by_fault (fault.Message why) never stops = absurd (never why refl)
       by_fault (fault.Demux why) never stops =
-          absurd (clash_demux why
-          (at_message ranges is.messages is.rest (receiving.Demux why) is.ranges is.whole accepted_all stops.begins))
+          cc (at_message ranges is.messages is.rest (receiving.Demux why) is.ranges is.whole accepted_all stops.begins)
       by_fault (fault.Decode why) never stops =
-          same_why why
-          (at_message ranges is.messages is.rest (receiving.Decode why) is.ranges is.whole accepted_all stops.begins)
+          let is_memory : why ≡ Memory =
+          cc (at_message ranges is.messages is.rest (receiving.Decode why) is.ranges is.whole accepted_all stops.begins) in
+          is_memory
       by_fault fault.Mode never stops =
-          absurd (clash_mode
-          (at_message ranges is.messages is.rest receiving.Mode is.ranges is.whole accepted_all stops.begins))
+          cc (at_message ranges is.messages is.rest receiving.Mode is.ranges is.whole accepted_all stops.begins)
 
 -- The capture of messages ends before no bytes that begin none.
 ends_well : (messages : List Message) (why : MessageFault) → All IsMessage messages

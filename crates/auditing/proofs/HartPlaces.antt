@@ -2,6 +2,7 @@
 use Rattle.std.proofs.Common.{◌≡◌, ℕ, Bool, true, false, cond, eqb, List, [], ◌∷◌, ◌++◌, refl, ap, ◌∙◌}
 use Rattle.message.specs.OfHart.{of_hart}
 use Rattle.message.specs.declared.message.Message.{Message}
+use Rattle.auditing.proofs.PushLemmas.{cons_parts}
 
 -- A place in a list of messages.
 pub record Place (all : List Message) (hart : ℕ) (before : List Message) (message : Message) : Type 0 where
@@ -13,14 +14,8 @@ pub record Place (all : List Message) (hart : ℕ) (before : List Message) (mess
 -- A message of a hart has a place, behind the hart's messages before it.
 pub place_of : (all : List Message) (hart : ℕ) (before after : List Message) (message : Message)
     → of_hart hart all ≡ before ++ message ∷ after → Place all hart before message
-place_of [] hart [] after message same = absurd (never message after same)
-  where
-    never : (m : Message) (ms : List Message) → [] ≡ m ∷ ms → ⊥
-    never m ms is = cc
-place_of [] hart (first ∷ before) after message same = absurd (never first (before ++ message ∷ after) same)
-  where
-    never : (m : Message) (ms : List Message) → [] ≡ m ∷ ms → ⊥
-    never m ms is = cc
+place_of [] hart [] after message same = cc
+place_of [] hart (first ∷ before) after message same = cc
 place_of (first ∷ all) hart before after message same =
     go (λ before same. place_of all hart before after message same) (eqb first.hart hart) refl before same
   where
@@ -39,14 +34,11 @@ place_of (first ∷ all) hart before after message same =
     go later true is [] same = record {
       front = [];
       back = all;
-      whole = ap (λ m. m ∷ all) (first_is first message (of_hart hart all) after same);
+      whole = ap (λ m. m ∷ all) (cons_parts first message (of_hart hart all) after same).0;
       own = refl;
     }
-      where
-        first_is : (x y : Message) (xs ys : List Message) → x ∷ xs ≡ y ∷ ys → x ≡ y
-        first_is x y xs ys e = cc
     go later true is (one ∷ before) same =
-        let split = both first one (of_hart hart all) (before ++ message ∷ after) same in
+        let split = cons_parts first one (of_hart hart all) (before ++ message ∷ after) same in
         let rest = later before split.1 in
         record {
           front = first ∷ rest.front;
@@ -55,6 +47,3 @@ place_of (first ∷ all) hart before after message same =
           own = ap (λ own. cond own (first ∷ of_hart hart rest.front) (of_hart hart rest.front)) is
               ∙ (λ i. split.0 i ∷ rest.own i);
         }
-      where
-        both : (x y : Message) (xs ys : List Message) → x ∷ xs ≡ y ∷ ys → (x ≡ y) × (xs ≡ ys)
-        both x y xs ys e = (cc, cc)

@@ -35,10 +35,7 @@ indexed_more harts front m index has = go (slice_get index m.hart) refl
     }
       where
         other : (hart : ℕ) (own : HartLedger) → slice_get index hart ≡ Some own → m.hart ≢ hart
-        other hart own is same = clash own (sym is ∙ ap (slice_get index) (sym same) ∙ found)
-          where
-            clash : (own : HartLedger) → Some own ≡ None → ⊥
-            clash own e = cc
+        other hart own is same = cc (sym is ∙ ap (slice_get index) (sym same) ∙ found)
     go (Some its) found = record {
       count = length-set index m.hart (longer its m.payload) ∙ has.count;
       each = λ hart own is. at hart own (slice_get-set index m.hart (longer its m.payload) hart own is);

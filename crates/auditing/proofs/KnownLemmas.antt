@@ -1,9 +1,9 @@
 -- Messages by what their payloads are compared by.
-use Rattle.std.proofs.Common.{◌≡◌, ℕ, Bool, true, false, cond, eqb, List, [], ◌∷◌, ◌++◌, Option, Some, None}
-use Rattle.std.proofs.Common.{length, map, max, slice_get, slice_set, refl, sym, ap, subst, ◌∙◌}
+use Rattle.std.proofs.Common.{◌≡◌, ℕ, Bool, true, false, cond, eqb, List, [], ◌∷◌, ◌++◌, Option, Some, None, length}
+use Rattle.std.proofs.Common.{map, max, slice_get, slice_set, refl, sym, ap, subst, ◌∙◌, ◌<◌, get_or}
 use Rattle.std.specs.Prelude.{◌+◌, if◌then◌else◌, nat_lt, option_map}
 use Rattle.std.proofs.lemmas.List.{length-map, map-append, map-set}
-use Rattle.std.proofs.lemmas.Option.{slice_get-map}
+use Rattle.std.proofs.lemmas.Option.{slice_get-map, same_Some, slice_get_read}
 use Rattle.payload.specs.Same.{known_by}
 use Rattle.payload.specs.declared.by.By.{By}
 use Rattle.payload.specs.declared.by.By.TheVariants as by
@@ -87,6 +87,13 @@ known-fresh : (how : By) (payloads : List (List ℕ))
 known-fresh how payloads = ap (λ came. record (fresh (map (known_by how) payloads)) { came = came }) (no_flags how payloads)
 
 -- What is kept of a hart, found at its place.
+-- What is read of a hart is at its place in what a clause sees.
+pub own-at : (view ledger : Ledger) (hart : ℕ) (own : HartLedger) → view ≡ ledger → hart < length ledger.harts
+    → own ≡ get_or view.harts hart own → slice_get ledger.harts hart ≡ Some own
+own-at view ledger hart own is known read =
+    ap (λ (l : Ledger). slice_get l.harts hart) (sym is)
+    ∙ slice_get_read view.harts (length ledger.harts) hart own (ap (λ (l : Ledger). length l.harts) (sym is)) known read
+
 pub known-at : (how : By) (harts : List HartLedger) (hart : ℕ) (own : HartLedger) → slice_get harts hart ≡ Some own
     → slice_get (map (known_own how) harts) hart ≡ Some (known_own how own)
 known-at how harts hart own is = slice_get-map (known_own how) harts hart ∙ ap (option_map (known_own how)) is
@@ -102,16 +109,10 @@ kept_at : (how : By) (harts : List HartLedger) (hart : ℕ) (own : HartLedger)
 kept_at how harts hart own is =
     go (slice_get harts hart) refl (sym (slice_get-map (known_own how) harts hart) ∙ is)
   where
-    never : None ≡ Some own → ⊥
-    never e = cc
-
-    same_own : (a b : HartLedger) → Some a ≡ Some b → a ≡ b
-    same_own a b e = cc
-
     go : (o : Option HartLedger) → slice_get harts hart ≡ o → option_map (known_own how) o ≡ Some own
         → Kept how harts hart own
-    go None at e = absurd (never e)
-    go (Some its) at e = record { its = its; at = at; is = same_own own (known_own how its) (sym e) }
+    go None at e = cc
+    go (Some its) at e = record { its = its; at = at; is = same_Some own (known_own how its) (sym e) }
 
 -- What was indexed is indexed as it is known.
 pub known-indexed : (how : By) (harts : ℕ) (messages : List Message) (index : List HartLedger)

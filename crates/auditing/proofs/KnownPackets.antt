@@ -1,7 +1,7 @@
 -- What messages unpack to, by what their payloads are known by.
-use Rattle.std.proofs.Common.{◌≡◌, ℕ, ◌<◌, ◌++◌, All, List, [], ◌∷◌, length, map, refl, sym, ap, subst, ◌∙◌}
+use Rattle.std.proofs.Common.{◌≡◌, ℕ, ◌++◌, All, List, [], ◌∷◌, length, refl, sym, ap, ◌∙◌}
 use Rattle.std.proofs.lemmas.List.Elements.{All-filter, All-head, All-tail}
-use Rattle.std.specs.Prelude.{◌==◌, ◌+◌, if◌then◌else◌, nat_lt, Err}
+use Rattle.std.specs.Prelude.{◌==◌, if◌then◌else◌, nat_lt, Err}
 use Rattle.payload.proofs.SameLemmas.{reading-known}
 use Rattle.payload.specs.declared.by.By.{By}
 use Rattle.payload.specs.ClosedTrace.{last_is_closing}
@@ -15,6 +15,7 @@ use Rattle.message.specs.declared.fault.DemuxFault.TheVariants as fault
 use Rattle.message.specs.declared.hart.Hart.{Hart}
 use Rattle.message.specs.declared.message.Message.{Message}
 use Rattle.auditing.proofs.KnownLemmas.{known-count}
+use Rattle.auditing.proofs.PushLemmas.{cons_parts}
 use Rattle.auditing.specs.Known.{known_all, known_one}
 
 -- They unpack to the same packets.
@@ -76,21 +77,12 @@ pub record Parted (how : By) (all before after : List Message) (message : Messag
 
 pub parted : (how : By) (all before after : List Message) (message : Message)
     → known_all how all ≡ before ++ message ∷ after → Parted how all before after message
-parted how [] [] after message same = absurd (never message after same)
-  where
-    never : (m : Message) (ms : List Message) → [] ≡ m ∷ ms → ⊥
-    never m ms is = cc
-parted how [] (first ∷ before) after message same = absurd (never first (before ++ message ∷ after) same)
-  where
-    never : (m : Message) (ms : List Message) → [] ≡ m ∷ ms → ⊥
-    never m ms is = cc
+parted how [] [] after message same = cc
+parted how [] (first ∷ before) after message same = cc
 parted how (one ∷ all) [] after message same =
-    record { front = []; its = one; back = all; whole = refl; front_is = refl; its_is = head_is _ _ _ _ same }
-  where
-    head_is : (x y : Message) (xs ys : List Message) → x ∷ xs ≡ y ∷ ys → x ≡ y
-    head_is x y xs ys e = cc
+    record { front = []; its = one; back = all; whole = refl; front_is = refl; its_is = (cons_parts _ _ _ _ same).0 }
 parted how (one ∷ all) (first ∷ before) after message same =
-    let split = both _ _ _ _ same in
+    let split = cons_parts _ _ _ _ same in
     let rest = parted how all before after message split.1 in
     record {
       front = one ∷ rest.front;
@@ -100,6 +92,3 @@ parted how (one ∷ all) (first ∷ before) after message same =
       front_is = (λ i. split.0 i ∷ rest.front_is i);
       its_is = rest.its_is;
     }
-  where
-    both : (x y : Message) (xs ys : List Message) → x ∷ xs ≡ y ∷ ys → (x ≡ y) × (xs ≡ ys)
-    both x y xs ys e = (cc, cc)

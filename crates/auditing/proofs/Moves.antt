@@ -4,10 +4,10 @@ use Rattle.std.proofs.Common.{◌∷◌, ◌++◌, Option, Some, None, length, m
 use Rattle.std.proofs.Common.{◌∙◌, arith, add-zero, zero-add}
 use Rattle.std.specs.Prelude.{◌&&◌, not, option_map}
 use Rattle.std.specs.List.{filter, list_any, range_with_len}
-use Rattle.std.proofs.lemmas.Bool.{eq-eqb, ne_eqb}
+use Rattle.std.proofs.lemmas.Bool.{eq-eqb, ne_eqb, and_right}
 use Rattle.std.proofs.lemmas.List.{map-set}
 use Rattle.std.proofs.lemmas.List.Sums.{count_by-le-length, sum_by-cons, sum_by_push}
-use Rattle.std.proofs.lemmas.Option.{slice_get-map}
+use Rattle.std.proofs.lemmas.Option.{slice_get-map, same_Some}
 use Rattle.message.specs.OfHart.{of_hart}
 use Rattle.message.specs.declared.message.Message.{Message}
 use Rattle.payload.specs.declared.by.By.TheVariants as by
@@ -21,7 +21,6 @@ use Rattle.auditing.specs.Exchanged.{untrue}
 use Rattle.auditing.specs.Fates.{fate_of, has_greater, has_number, is_same, is_true, true_ones}
 use Rattle.auditing.specs.Ledger.{HartLedger}
 use Rattle.auditing.specs.Sent.{harts_in}
-use Rattle.auditing.specs.declared.fate.Fate.TheVariants as fate
 use Rattle.auditing.specs.steps.Moving.{changed_at, changed_found, counted_once, has_in, harts_that, is_payload, is_untrue}
 use Rattle.auditing.specs.steps.Moving.{moves_if, none_moved, owner_in}
 
@@ -66,10 +65,7 @@ changed_range {A} f g change from (suc count) (suc place) others here =
 -- The element at a place of what a function gives on a range.
 pub range_at : {A : Type 0} (f : ℕ → A) (from count place : ℕ) → place < count
     → slice_get (map f (range_with_len from count)) place ≡ Some (f (from + place))
-range_at f from zero place within = absurd (never within)
-  where
-    never : place < 0 → ⊥
-    never low = omega (arith, low)
+range_at f from zero place within = absurd (omega (arith, within))
 range_at f from (suc count) zero within = ap (λ n. Some (f n)) (sym (add-zero from))
 range_at f from (suc count) (suc place) within =
     range_at f (from + 1) count place (omega (arith, within)) ∙ ap (λ n. Some (f n)) (omega arith)
@@ -95,10 +91,7 @@ none_in has from (suc count) none =
 passes_below : (has : ℕ → Bool) (from count all : ℕ) → count ≤ all → ((x : ℕ) → from + count ≤ x → has x ≡ false)
     → filter has (range_with_len from all) ≡ filter has (range_with_len from count)
 passes_below has from zero all within none = none_in has from all (λ x past. none x (omega (arith, past)))
-passes_below has from (suc count) zero within none = absurd (never within)
-  where
-    never : suc count ≤ 0 → ⊥
-    never low = omega (arith, low)
+passes_below has from (suc count) zero within none = absurd (omega (arith, within))
 passes_below has from (suc count) (suc all) within none =
     ap (λ rest. cond (has from) (from ∷ rest) rest)
     (passes_below has (from + 1) count all (omega (arith, within)) (λ x past. none x (omega (arith, past))))
@@ -113,21 +106,12 @@ passes_alike has one other none none_other =
 
 -- The only one that passes a test passes it.
 only_passes : (has : ℕ → Bool) (harts : List ℕ) (hart : ℕ) → the_only (filter has harts) ≡ Some hart → has hart ≡ true
-only_passes has [] hart is = absurd (never hart is)
-  where
-    never : (hart : ℕ) → None ≡ Some hart → ⊥
-    never hart e = cc
+only_passes has [] hart is = cc
 only_passes has (one ∷ harts) hart is = go (has one) refl (only_passes has harts hart) is
   where
     first : (rest : List ℕ) → has one ≡ true → the_only (one ∷ rest) ≡ Some hart → has hart ≡ true
-    first [] own e = subst (λ h. has h ≡ true) (head e) own
-      where
-        head : Some one ≡ Some hart → one ≡ hart
-        head e = cc
-    first (other ∷ rest) own e = absurd (never e)
-      where
-        never : None ≡ Some hart → ⊥
-        never e = cc
+    first [] own e = subst (λ h. has h ≡ true) (same_Some one hart e) own
+    first (other ∷ rest) own e = cc
 
     go : (b : Bool) → has one ≡ b → (the_only (filter has harts) ≡ Some hart → has hart ≡ true)
         → the_only (cond b (one ∷ filter has harts) (filter has harts)) ≡ Some hart → has hart ≡ true
@@ -192,10 +176,7 @@ untrue_is sent received message =
     go true true false false implied = refl
     go true false again greater implied = refl
     go false false again greater implied = refl
-    go false true again greater implied = absurd (never (implied refl))
-      where
-        never : false ≡ true → ⊥
-        never e = cc
+    go false true again greater implied = cc (implied refl)
 
 module _ (sent received : List Message) (message : Message) where
   abbrev more : List Message
@@ -235,16 +216,12 @@ module _ (sent received : List Message) (message : Message) where
       ≡ all_moved sent more harts
   moves_next harts = go (is_true sent message) (owner_of sent message) refl refl
     where
-      never : (a : Bool) → (a && false) ≡ false
-      never true = refl
-      never false = refl
-
       go : (is : Bool) (owner : Option ℕ) → is_true sent message ≡ is → owner_of sent message ≡ owner
           → moves_if (not is) (all_moved sent received harts) message.hart owner ≡ all_moved sent more harts
       go true owner same owned =
-          all_stay harts (λ hart other. is_of hart other true owner same owned ∙ never (eqb message.hart hart))
+          all_stay harts (λ hart other. is_of hart other true owner same owned ∙ and_right (eqb message.hart hart) false refl)
       go false None same owned =
-          all_stay harts (λ hart other. is_of hart other false None same owned ∙ never (eqb message.hart hart))
+          all_stay harts (λ hart other. is_of hart other false None same owned ∙ and_right (eqb message.hart hart) false refl)
       go false (Some owner) same owned =
           changed_range (row received harts) (row more harts) (λ counts. changed_at counted_once counts owner) 0 harts
           message.hart
@@ -281,26 +258,18 @@ owns_none : (sent : List Message) (hart other : ℕ) (message : Message) → of_
     → is_moved sent hart other message ≡ false
 owns_none sent hart other message none = go (owner_of sent message) refl
   where
-    both : (a b : Bool) → (a && (b && false)) ≡ false
-    both true true = refl
-    both true false = refl
-    both false b = refl
-
     go : (owner : Option ℕ) → owner_of sent message ≡ owner
         → (eqb message.hart hart && (not (is_true sent message) && is_hart other owner)) ≡ false
-    go None is = both (eqb message.hart hart) (not (is_true sent message))
+    go None is = and_right (eqb message.hart hart) _ (and_right (not (is_true sent message)) false refl)
     go (Some owner) is =
         ap (λ b. eqb message.hart hart && (not (is_true sent message) && b)) (ne_eqb owner other clash)
-        ∙ both (eqb message.hart hart) (not (is_true sent message))
+        ∙ and_right (eqb message.hart hart) _ (and_right (not (is_true sent message)) false refl)
       where
         clash : owner ≡ other → ⊥
         clash e =
             let has = only_passes (has_of sent message) (range_with_len 0 (harts_in sent)) owner is in
             let not_has = none_of sent message other none in
-            never (sym (ap (has_of sent message) e ∙ not_has) ∙ has)
-          where
-            never : false ≡ true → ⊥
-            never e = cc
+            cc (sym (ap (has_of sent message) e ∙ not_has) ∙ has)
 
 none_moved_to : (sent : List Message) (hart other : ℕ) → of_hart other sent ≡ [] → (received : List Message)
     → moved sent received hart other ≡ 0
@@ -322,10 +291,7 @@ exchanged_below : (f : ℕ → ℕ) (from count most all : ℕ) → count ≤ mo
     → first_exchanged from all (map f (range_with_len from most))
     ≡ first_exchanged from all (map f (range_with_len from count))
 exchanged_below f from zero most all within none = none_exchanged f from most all (λ x past. none x (omega (arith, past)))
-exchanged_below f from (suc count) zero all within none = absurd (never within)
-  where
-    never : suc count ≤ 0 → ⊥
-    never low = omega (arith, low)
+exchanged_below f from (suc count) zero all within none = absurd (omega (arith, within))
 exchanged_below f from (suc count) (suc most) all within none =
     ap (λ rest. cond (is_most (f from) all) (Some (record { hart = from; count = f from })) rest)
     (exchanged_below f (from + 1) count most all (omega (arith, within)) (λ x past. none x (omega (arith, past))))

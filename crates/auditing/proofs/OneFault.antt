@@ -5,8 +5,6 @@ use Rattle.message.proofs.StartsRead.{header_only}
 use Rattle.message.specs.Capture.{capture}
 use Rattle.message.specs.Cut.{IsMessage}
 use Rattle.message.specs.Header.{header_bytes, setting_bytes}
-use Rattle.message.specs.declared.fault.DemuxFault.{DemuxFault}
-use Rattle.message.specs.declared.fault.MessageFault.{MessageFault}
 use Rattle.message.specs.declared.header.Header.{Header}
 use Rattle.message.specs.declared.message.Message.{Message}
 use Rattle.captures.proofs.CapturesSplit.{capture_first, capture_split}
@@ -40,24 +38,14 @@ same_start bytes xs ys (Some h) (Some k) one other =
       append_cancel_left (header_bytes h) xs ys (both ∙ ap (λ (x : Header). header_bytes x ++ ys) (sym same)),
     )
 
--- A capture that is read whole does not stop.
-never_stops : (number : ℕ) (why : MessageFault) → reading.Message number why ≡ reading.Memory → ⊥
-never_stops number why is = cc
-
--- No message of SENT is misplaced.
-never_misplaced : (why : DemuxFault) (o : Option DemuxFault) → o ≡ None → o ≡ Some why → ⊥
-never_misplaced why o none some = cc
-
 -- The only fault of SENT that is whole is that an allocation failed.
 pub only_memory : (bytes : List ℕ) (header : Option Header) (messages : List Message) (why : SentFault)
     → IsSent bytes header messages → IsSentFault bytes why → why ≡ fault.Memory
 only_memory bytes header messages fault.Memory is stops = refl
 only_memory bytes header messages (fault.Unread number why) is (inl at) =
-    absurd (never_stops number why
-    (never_both bytes header messages (reading.Message number why) is.whole (AtHeader at)))
+    cc (never_both bytes header messages (reading.Message number why) is.whole (AtHeader at))
 only_memory bytes header messages (fault.Unread number why) is (inr at) =
-    absurd (never_stops number why
-    (never_both bytes header messages (reading.Message number why) is.whole (AtMessage (record {
+    cc (never_both bytes header messages (reading.Message number why) is.whole (AtMessage (record {
       header = at.header;
       messages = at.messages;
       rest = at.rest;
@@ -65,7 +53,7 @@ only_memory bytes header messages (fault.Unread number why) is (inr at) =
       whole = at.whole;
       counted = at.counted;
       stops = at.refused;
-    }))))
+    })))
 only_memory bytes header messages (fault.Misplaced number why) is at =
     let start =
     same_start bytes (capture messages) (capture at.messages ++ at.rest) header at.header is.whole.whole at.whole in
@@ -78,5 +66,4 @@ only_memory bytes header messages (fault.Misplaced number why) is at =
     split.whole ∙ ap (λ l. at.messages ++ l) first.1 in
     let turn = in_turn_at (known_harts header) [] at.messages at.refused.message first.0
     (subst (AreInTurn (known_harts header) []) all is.in_turn) in
-    absurd (never_misplaced why _ turn
-    (ap (λ harts. misplaced harts at.messages at.refused.message) start.0 ∙ at.refused.misplaced))
+    cc (sym turn ∙ ap (λ harts. misplaced harts at.messages at.refused.message) start.0 ∙ at.refused.misplaced)

@@ -3,20 +3,18 @@ use Rattle.std.proofs.Common.{◌≡◌, ◌≢◌, ◌<◌, ◌≤◌, ◌⊎�
 use Rattle.std.proofs.Common.{Option, Some, None, Result, Ok, Err, length, slice_get, slice_set, refl, ap, sym, ◌∙◌, arith}
 use Rattle.std.specs.Prelude.{◌==◌, ◌&&◌, OnOk, is_ok, nat_lt}
 use Rattle.std.specs.Cmp.Lexicographic.{nat_list_eq_equiv}
-use Rattle.std.proofs.lemmas.Bool.{cases_eq, cases_lt, eq-eqb, eqb-true, le-ltb, lt-ltb, ne_eqb}
-use Rattle.std.proofs.lemmas.Option.{slice_get_within}
+use Rattle.std.proofs.lemmas.Bool.{cases_eq, cases_lt, eq-eqb, eqb-true, le-ltb, lt-ltb, ne_eqb, and_right}
+use Rattle.std.proofs.lemmas.Option.{slice_get_within, same_Some}
 use Rattle.std.proofs.lemmas.Slice.Eq.{bytes_eq-Decides}
 use Rattle.std.specs.HashMap.{HashMap}
 use Rattle.std.specs.Str.{bytes_eq}
 use Rattle.arrayvec.specs.ArrayVec.{ArrayVec}
-use Rattle.message.proofs.Answering.{not_both}
 use Rattle.payload.specs.Same.{known_by}
 use Rattle.payload.specs.declared.by.By.{By}
 use Rattle.message.specs.declared.message.Message.{Message}
+use Rattle.auditing.proofs.KnownLemmas.{after-payloads}
 use Rattle.auditing.specs.Exchanged.{the_only}
 use Rattle.auditing.specs.Ledger.{HartLedger}
-use Rattle.auditing.specs.declared.fate.Fate.{Fate}
-use Rattle.auditing.specs.declared.fate.Fate.TheVariants as fate
 use Rattle.auditing.specs.steps.Moving.{has_in, harts_that, is_payload, owner_in}
 use Rattle.auditing.specs.steps.Owning.{KeepsOwners, is_known_by, owner_after, owners_after, the_owner}
 use Rattle.auditing.specs.steps.Taking.{fate_in, hart_after, harts_found}
@@ -59,25 +57,14 @@ table_owner how harts number payload =
     same None = refl
     same (Some sent) = refl
 
--- A hart keeps its payloads.
-keeps_payloads : (own : HartLedger) (number : ℕ) (its : Fate) → (hart_after own number its).payloads ≡ own.payloads
-keeps_payloads own number fate.Stranger = refl
-keeps_payloads own number fate.Changed = refl
-keeps_payloads own number fate.Repeat = refl
-keeps_payloads own number fate.Late = refl
-keeps_payloads own number fate.InOrder = refl
-
 -- The harts that pass a test stay, where the hart that is put at a place passes it as the one that is there.
 same_harts : (test : HartLedger → Bool) (from : ℕ) (harts : List HartLedger) (hart : ℕ) (own new : HartLedger)
     → slice_get harts hart ≡ Some own → test new ≡ test own
     → harts_that test from (slice_set harts hart new) ≡ harts_that test from harts
 same_harts test from [] hart own new at same = refl
 same_harts test from (one ∷ harts) zero own new at same =
-    let its : own ≡ one = sym (is one own at) in
+    let its : own ≡ one = sym (same_Some one own at) in
     ap (λ b. cond b (from ∷ harts_that test (from + 1) harts) (harts_that test (from + 1) harts)) (same ∙ ap test its)
-  where
-    is : (a b : HartLedger) → Some a ≡ Some b → a ≡ b
-    is a b e = cc
 same_harts test from (one ∷ harts) (suc hart) own new at same =
     let rest = same_harts test (from + 1) harts hart own new at same in
     λ i. cond (test one) (from ∷ rest i) (rest i)
@@ -95,7 +82,7 @@ owner_kept how harts message number payload = go (slice_get harts message.hart) 
         let its = fate_in how own message.number message.payload in
         ap the_only
         (same_harts (has_in how number payload) 0 harts message.hart own (hart_after own message.number its) at
-        (ap (λ payloads. is_payload how payload (slice_get payloads number)) (keeps_payloads own message.number its)))
+        (ap (λ payloads. is_payload how payload (slice_get payloads number)) (after-payloads own message.number its)))
 
 -- With the message of one number more, a table has what the hart's messages up to it make it.
 pub numbers_more : (how : By) (hart : ℕ) (payloads : List (List ℕ)) (place number : ℕ) (known bytes sent : List ℕ)
@@ -138,13 +125,9 @@ pub all_numbers : (how : By) (payloads : List (List ℕ)) (count number : ℕ) (
     ≡ is_known_by how bytes (slice_get payloads number)
 all_numbers how payloads count number bytes all = go (slice_get payloads number) refl
   where
-    none : (b : Bool) → (b && false) ≡ false
-    none true = refl
-    none false = refl
-
     go : (o : Option (List ℕ)) → slice_get payloads number ≡ o
         → (nat_lt number count && is_known_by how bytes o) ≡ is_known_by how bytes o
-    go None at = none (nat_lt number count)
+    go None at = and_right (nat_lt number count) false refl
     go (Some sent) at =
         let within = slice_get_within payloads number sent at in
         ap (λ b. b && is_known_by how bytes (Some sent)) (lt-ltb number count (omega (arith, all, within)))
@@ -172,10 +155,7 @@ put_twice false last first old = refl
 -- What is ensured unless an allocation fails holds where none did.
 pub where_ok : {T E P : Type 0} (r : Result T E) → is_ok r ≡ true → OnOk r P → P
 where_ok (Ok x) is holds = holds
-where_ok (Err e) is holds = absurd (never is)
-  where
-    never : false ≡ true → ⊥
-    never e = cc
+where_ok (Err e) is holds = cc
 
 -- A table that is complete stays so after a message is taken.
 pub keeps_owners : {S : Type 0} (how : By) (harts after : List HartLedger) (message : Message) (complete : Bool)
@@ -185,8 +165,3 @@ keeps_owners how harts after message complete table keeps is = λ all number pay
     keeps all number payload
     ∙ sym (owner_kept how harts message number payload)
     ∙ ap (λ own. owner_in how own number payload) (sym is)
-
--- A table that is not complete says nothing.
-pub keeps_nothing : {S : Type 0} (how : By) (harts : List HartLedger) (complete : Bool)
-    (table : HashMap (ℕ × ArrayVec ℕ) (Option ℕ) S) → complete ≡ false → KeepsOwners how harts complete table
-keeps_nothing how harts complete table not_yet = λ all. absurd (not_both complete all not_yet)

@@ -1,5 +1,5 @@
 -- What is known of a message, by what is kept.
-use Rattle.std.proofs.Common.{◌≡◌, ℕ, List, Option, Some, None, slice_get, refl, ap, ◌∙◌}
+use Rattle.std.proofs.Common.{◌≡◌, List, Option, Some, None, slice_get, refl, ap}
 use Rattle.message.specs.declared.message.Message.{Message}
 use Rattle.auditing.proofs.PayloadLemmas.{payload_kept, payload_none}
 use Rattle.auditing.proofs.Taken.{beyond_end}

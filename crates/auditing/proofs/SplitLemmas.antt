@@ -32,10 +32,7 @@ module _ (by : By) (harts : ℕ) where
       }
         where
           other : (hart : ℕ) (own : List (List ℕ)) → slice_get lists hart ≡ Some own → m.hart ≢ hart
-          other hart own is same = clash own (sym is ∙ ap (slice_get lists) (sym same) ∙ found)
-            where
-              clash : (own : List (List ℕ)) → Some own ≡ None → ⊥
-              clash own e = cc
+          other hart own is same = cc (sym is ∙ ap (slice_get lists) (sym same) ∙ found)
       go (Some its) found = record {
         count = length-set lists m.hart (its ++ known_by by m.payload ∷ []) ∙ has.count;
         each = λ hart own is.

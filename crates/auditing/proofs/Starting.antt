@@ -12,6 +12,7 @@ use Rattle.captures.specs.NoMessage.{BeginsNone}
 use Rattle.captures.specs.Whole.{BeginsWith}
 use Rattle.payload.specs.declared.by.By.{By}
 use Rattle.auditing.proofs.TakenKnown.{starts_known}
+use Rattle.auditing.proofs.TallyLemmas.{unheard}
 use Rattle.auditing.specs.Audits.{Audits}
 use Rattle.auditing.specs.Ledger.{HartLedger, Ledger}
 use Rattle.auditing.specs.Sent.{AreInTurn, BeginsMisplaced, IsSent, IsSentFault, StopsBehind, harts_in, harts_of}
@@ -19,7 +20,7 @@ use Rattle.auditing.specs.Sent.{known_harts}
 use Rattle.auditing.specs.declared.fault.SentFault.{SentFault}
 use Rattle.auditing.specs.declared.fault.SentFault.TheVariants as fault
 use Rattle.auditing.specs.steps.Moving.{none_moved}
-use Rattle.auditing.specs.steps.Indexing.{AreIndexed, HasCounted, IsCountFault, harts_by}
+use Rattle.auditing.specs.steps.Indexing.{AreIndexed, HasCounted, IsCountFault, harts_by, StopsCounting}
 
 -- The messages of these bytes are audited.
 abbrev pub IsStarted : List ℕ → ℕ → Ledger → Type 0
@@ -39,15 +40,7 @@ pub started : (how : By) (header : Option Header) (harts count highest number : 
     → count ≡ harts_by header highest
     → ((messages : List Message) → All IsMessage messages → bytes ≡ capture messages
     → AreIndexed count messages index)
-    → IsStarted bytes harts (record {
-      by = how;
-      header = header;
-      harts = index;
-      strangers = 0;
-      taken = 0;
-      first = None;
-      moves = moves;
-    })
+    → IsStarted bytes harts (unheard how header index moves)
 started how header harts count highest number bytes counts index moves none harts_is has count_is indexed =
     let sent = has.messages in
     let whole : bytes ≡ capture sent = has.whole ∙ append-nil (capture sent) in
@@ -58,15 +51,7 @@ started how header harts count highest number bytes counts index moves none hart
       whole,
       has.in_turn,
       subst
-          (λ its. Audits sent [] (record {
-            by = how;
-            header = header;
-            harts = index;
-            strangers = 0;
-            taken = 0;
-            first = None;
-            moves = its;
-          })) (sym (none ∙ ap none_moved (sym (indexed sent has.ranges whole).count)))
+          (λ its. Audits sent [] (unheard how header index its)) (sym (none ∙ ap none_moved (sym (indexed sent has.ranges whole).count)))
           (starts_known how header sent index turn
           (subst (λ c. AreIndexed c sent index) counted (indexed sent has.ranges whole))),
     )
@@ -79,72 +64,34 @@ sent_whole bytes rest header harts ledger begins harts_is header_is is =
     (is.0, subst (λ h. IsSent bytes h is.0) (sym header_is) (at header begins harts_is), is.4)
   where
     at : (header : Option Header) → BeginsWith header bytes rest → harts ≡ known_harts header → IsSent bytes header is.0
-    at None begins harts_is = record {
-      whole = record { ranges = is.1; whole = (begins.0, begins.1 ∙ is.2) };
-      in_turn = subst (λ h. AreInTurn h [] is.0) harts_is is.3;
-    }
-    at (Some header) begins harts_is = record {
-      whole = record {
-        ranges = is.1;
-        whole = (begins.0, begins.1 ∙ ap (λ r. header_bytes header ++ r) is.2);
-      };
+    at header begins harts_is = record {
+      whole = record { ranges = is.1; whole = subst (BeginsWith header bytes) is.2 begins };
       in_turn = subst (λ h. AreInTurn h [] is.0) harts_is is.3;
     }
 
--- What stops counting behind a header, or without one, is the fault of SENT.
+-- What stops counting behind a header, or without one, stops SENT.
+stops_behind : (bytes rest : List ℕ) (header : Option Header) (harts number : ℕ)
+    (Refuses : ℕ → List Message → List ℕ → Type 0) → BeginsWith header bytes rest → harts ≡ known_harts header
+    → StopsCounting harts rest number (Refuses harts) → StopsBehind bytes number Refuses
+stops_behind bytes rest header harts number Refuses begins harts_is stops = record {
+  header = header;
+  messages = stops.messages;
+  rest = stops.rest;
+  ranges = stops.ranges;
+  whole = subst (BeginsWith header bytes) stops.whole begins;
+  in_turn = subst (λ h. AreInTurn h [] stops.messages) harts_is stops.in_turn;
+  counted = stops.number_is;
+  refused = subst (λ h. Refuses h stops.messages stops.rest) harts_is stops.refused;
+}
+
+-- It is the fault of SENT.
 pub sent_stops : (bytes rest : List ℕ) (header : Option Header) (harts : ℕ) (why : SentFault)
     → BeginsWith header bytes rest → harts ≡ known_harts header → IsCountFault harts rest why → IsSentFault bytes why
 sent_stops bytes rest header harts fault.Memory begins harts_is stops = tt
 sent_stops bytes rest header harts (fault.Unread number why) begins harts_is stops =
-    inr (stops_at header begins harts_is)
-  where
-    stops_at : (header : Option Header) → BeginsWith header bytes rest → harts ≡ known_harts header
-        → StopsBehind bytes number (λ harts messages rest. BeginsNone rest why)
-    stops_at None begins harts_is = record {
-      header = None;
-      messages = stops.messages;
-      rest = stops.rest;
-      ranges = stops.ranges;
-      whole = (begins.0, begins.1 ∙ stops.whole);
-      in_turn = subst (λ h. AreInTurn h [] stops.messages) harts_is stops.in_turn;
-      counted = stops.number_is;
-      refused = stops.refused;
-    }
-    stops_at (Some header) begins harts_is = record {
-      header = Some header;
-      messages = stops.messages;
-      rest = stops.rest;
-      ranges = stops.ranges;
-      whole = (begins.0, begins.1 ∙ ap (λ r. header_bytes header ++ r) stops.whole);
-      in_turn = subst (λ h. AreInTurn h [] stops.messages) harts_is stops.in_turn;
-      counted = stops.number_is;
-      refused = stops.refused;
-    }
+    inr (stops_behind bytes rest header harts number (λ harts messages rest. BeginsNone rest why) begins harts_is stops)
 sent_stops bytes rest header harts (fault.Misplaced number why) begins harts_is stops =
-    stops_at header begins harts_is
-  where
-    stops_at : (header : Option Header) → BeginsWith header bytes rest → harts ≡ known_harts header
-        → StopsBehind bytes number (BeginsMisplaced why)
-    stops_at None begins harts_is = record {
-      header = None;
-      messages = stops.messages;
-      rest = stops.rest;
-      ranges = stops.ranges;
-      whole = (begins.0, begins.1 ∙ stops.whole);
-      in_turn = subst (λ h. AreInTurn h [] stops.messages) harts_is stops.in_turn;
-      counted = stops.number_is;
-      refused = subst (λ h. BeginsMisplaced why h stops.messages stops.rest) harts_is stops.refused;
-    }
-    stops_at (Some header) begins harts_is = record {
-      header = Some header;
-      messages = stops.messages;
-      rest = stops.rest;
-      ranges = stops.ranges;
-      whole = (begins.0, begins.1 ∙ ap (λ r. header_bytes header ++ r) stops.whole);
-      in_turn = subst (λ h. AreInTurn h [] stops.messages) harts_is stops.in_turn;
-      counted = stops.number_is;
-      refused = subst (λ h. BeginsMisplaced why h stops.messages stops.rest) harts_is stops.refused;
-    }
+    stops_behind bytes rest header harts number (BeginsMisplaced why) begins harts_is stops
 
 -- The same, by what is answered.
 pub sent_started : (bytes rest : List ℕ) (header : Option Header) (harts : ℕ) (r : Result Ledger SentFault)

@@ -34,10 +34,7 @@ beyond_end harts hart is = go (cases_lt hart (length harts))
     go (inr past) = past
     go (inl within) =
         let found = slice_get-some harts hart within in
-        absurd (never found.0 (sym found.1 ∙ is))
-      where
-        never : (own : HartLedger) → Some own ≡ None → ⊥
-        never own e = cc
+        cc (sym found.1 ∙ is)
 
 module _ (sent received : List Message) (ledger : Ledger) (audits : AuditsBytes sent received ledger) (message : Message) where
   abbrev more : List Message

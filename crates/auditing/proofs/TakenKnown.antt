@@ -1,6 +1,6 @@
 -- One more message of RECEIVED, by what payloads are compared by.
-use Rattle.std.proofs.Common.{◌≡◌, ◌≢◌, ◌⊎◌, inl, inr, ℕ, ◌≤◌, List, [], ◌∷◌, ◌++◌, Option, Some, None, length, map, slice_get}
-use Rattle.std.proofs.Common.{refl, sym, ap, subst, ◌∙◌, arith}
+use Rattle.std.proofs.Common.{◌≡◌, ◌≢◌, ◌⊎◌, inl, inr, ℕ, List, [], ◌∷◌, ◌++◌, Option, Some, None, length, map}
+use Rattle.std.proofs.Common.{slice_get, refl, sym, ap, subst, ◌∙◌, arith}
 use Rattle.std.proofs.lemmas.List.{length-map, length-set}
 use Rattle.payload.specs.declared.by.By.{By}
 use Rattle.message.proofs.AcceptedLemmas.{slice_get-set}
@@ -9,17 +9,17 @@ use Rattle.message.specs.OfHart.{of_hart}
 use Rattle.message.specs.declared.header.Header.{Header}
 use Rattle.message.specs.declared.message.Message.{Message}
 use Rattle.auditing.proofs.KnownLemmas.{after-payloads, fate_from-known, finding_from-known, known-harts, known-indexed}
-use Rattle.auditing.proofs.KnownLemmas.{known-more, known-of_hart, known-turn, ledger-known}
+use Rattle.auditing.proofs.KnownLemmas.{known-more, known-turn, ledger-known}
 use Rattle.auditing.proofs.SentLemmas.{numbered}
 use Rattle.auditing.proofs.Taken.{fate_is_from, finding_is_from, takes_all}
-use Rattle.auditing.proofs.TallyLemmas.{others_none, starts}
+use Rattle.auditing.proofs.TallyLemmas.{others_none, starts, unheard}
 use Rattle.auditing.specs.Audits.{Audits, AuditsBytes}
 use Rattle.auditing.specs.Fates.{fate_of}
 use Rattle.auditing.specs.Findings.{finding_of}
 use Rattle.auditing.specs.Known.{known_all, known_one}
 use Rattle.auditing.specs.Ledger.{HartLedger, Ledger, known_ledger, known_own}
 use Rattle.auditing.specs.Sent.{AreInTurn, harts_of, known_harts}
-use Rattle.auditing.specs.steps.Indexing.{AreIndexed, fresh, payloads_of}
+use Rattle.auditing.specs.steps.Indexing.{AreIndexed}
 use Rattle.auditing.specs.steps.Moving.{none_moved}
 use Rattle.auditing.specs.steps.Taking.{fate_from, fate_in, finding_from, hart_after, harts_found, ledger_after}
 
@@ -85,15 +85,7 @@ module _ (sent received : List Message) (ledger : Ledger) (audits : Audits sent 
 -- What is kept before the first message.
 pub starts_known : (how : By) (header : Option Header) (sent : List Message) (index : List HartLedger)
     → AreInTurn (known_harts header) [] sent → AreIndexed (harts_of header sent) sent index
-    → Audits sent [] (record {
-      by = how;
-      header = header;
-      harts = index;
-      strangers = 0;
-      taken = 0;
-      first = None;
-      moves = none_moved (length index);
-    })
+    → Audits sent [] (unheard how header index (none_moved (length index)))
 starts_known how header sent index turn indexed = record {
   payloads = λ hart own is.
       numbered (known_harts header) hart [] sent turn
@@ -102,15 +94,8 @@ starts_known how header sent index turn indexed = record {
   count = indexed.count;
   known =
       subst
-      (λ count. AuditsBytes (known_all how sent) [] (record {
-        by = how;
-        header = header;
-        harts = map (known_own how) index;
-        strangers = 0;
-        taken = 0;
-        first = None;
-        moves = none_moved count;
-      })) (length-map index (known_own how))
+      (λ count. AuditsBytes (known_all how sent) []
+      (unheard how header (map (known_own how) index) (none_moved count))) (length-map index (known_own how))
       (starts how header (known_all how sent) (map (known_own how) index)
       (known-turn how (known_harts header) [] sent turn)
       (subst (λ n. AreIndexed n (known_all how sent) (map (known_own how) index)) (sym (known-harts how header sent))

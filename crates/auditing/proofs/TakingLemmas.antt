@@ -6,7 +6,7 @@ use Rattle.std.specs.Prelude.{◌-◌, ◌&&◌, ◌||◌, if◌then◌else◌, 
 use Rattle.std.specs.List.{list_any}
 use Rattle.std.specs.Str.{bytes_eq}
 use Rattle.std.proofs.lemmas.Bool.{and_from, and_parts, eq-eqb, eqb-true, le-ltb, lt-ltb, ltb-false, ltb-true, ne_eqb}
-use Rattle.std.proofs.lemmas.Bool.{true≢false}
+use Rattle.std.proofs.lemmas.Bool.{true≢false, or_right}
 use Rattle.message.specs.OfHart.{of_hart}
 use Rattle.message.specs.declared.message.Message.{Message}
 use Rattle.payload.specs.declared.by.By.TheVariants as by
@@ -224,7 +224,7 @@ module _ (sent received : List Message) (message : Message) (own : HartLedger)
       let here : g message.number ≡ true =
       numbers is message.number
       ∙ ap (λ b. has_number before message.hart message.number || b) (eq-eqb message.number message.number refl)
-      ∙ or_true (has_number before message.hart message.number) in
+      ∙ or_right (has_number before message.hart message.number) true refl in
       let elsewhere : (other : ℕ) → other ≢ message.number → g other ≡ f other =
       λ other differs. numbers is other
       ∙ ap (λ b. f other || b) (ne_eqb message.number other (λ same. differs (sym same)))
@@ -233,10 +233,6 @@ module _ (sent received : List Message) (message : Message) (own : HartLedger)
       ∙ sym (set_flag f g message.hart 0 own.payloads message.number message.number (zero-add message.number) here
       elsewhere)
       ∙ ap (flags g) (sym stands.payloads)
-    where
-      or_true : (b : Bool) → (b || true) ≡ true
-      or_true true = refl
-      or_true false = refl
 
   -- A late one, and one in order.
   late : fate_of sent received message ≡ fate.Late → is_true sent message ≡ true
@@ -302,12 +298,8 @@ module _ (sent received : List Message) (message : Message) (own : HartLedger)
               → (ltb (number + 1) own.past || b) ≡ ltb (number + 1) (message.number + 1)
           go true e =
               let low = ltb-true number message.number e in
-              absorb (ltb (number + 1) own.past)
+              or_right (ltb (number + 1) own.past) true refl
               ∙ sym (lt-ltb (number + 1) (message.number + 1) (omega (arith, low)))
-            where
-              absorb : (b : Bool) → (b || true) ≡ true
-              absorb true = refl
-              absorb false = refl
           go false e =
               let above = ltb-false number message.number e in
               or_false (ltb (number + 1) own.past)

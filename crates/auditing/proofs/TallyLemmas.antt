@@ -16,7 +16,7 @@ use Rattle.auditing.proofs.SentLemmas.{none_above, none_beyond, numbered}
 use Rattle.auditing.specs.Audits.{AuditsBytes, AuditsHart, capped}
 use Rattle.auditing.specs.Fates.{has_number, true_ones}
 use Rattle.auditing.specs.Judged.{Judged, fates_counted, is_fate, judged, judged_behind, strangers_in}
-use Rattle.auditing.specs.Ledger.{HartLedger}
+use Rattle.auditing.specs.Ledger.{HartLedger, Ledger}
 use Rattle.auditing.specs.Losing.{lost_numbers, lost_runs, runs_of}
 use Rattle.auditing.specs.Sent.{AreInTurn, harts_of, known_harts}
 use Rattle.auditing.specs.declared.fate.Fate.{Fate}
@@ -49,18 +49,22 @@ pub others_none : (header : Option Header) (sent : List Message) → AreInTurn (
 others_none None sent turn hart beyond = none_above hart sent beyond
 others_none (Some header) sent turn hart beyond = none_beyond header.harts hart [] sent turn beyond
 
+-- What is kept of these harts before the first message of RECEIVED, where so many of their messages are of each.
+abbrev pub unheard : By → Option Header → List HartLedger → List (List ℕ) → Ledger
+unheard how header harts moves = record {
+  by = how;
+  header = header;
+  harts = harts;
+  strangers = 0;
+  taken = 0;
+  first = None;
+  moves = moves;
+}
+
 -- What is kept of all harts then.
 pub starts : (how : By) (header : Option Header) (sent : List Message) (index : List HartLedger)
     → AreInTurn (known_harts header) [] sent → AreIndexed (harts_of header sent) sent index
-    → AuditsBytes sent [] (record {
-      by = how;
-      header = header;
-      harts = index;
-      strangers = 0;
-      taken = 0;
-      first = None;
-      moves = none_moved (length index);
-    })
+    → AuditsBytes sent [] (unheard how header index (none_moved (length index)))
 starts how header sent index turn indexed = record {
   count = indexed.count;
   each = λ hart own is. subst (AuditsHart sent [] hart) (sym (indexed.each hart own is))

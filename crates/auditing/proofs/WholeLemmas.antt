@@ -1,43 +1,30 @@
 -- A hart is whole exactly where nothing befell its messages.
-use Rattle.std.proofs.Common.{◌≡◌, ◌⊎◌, inl, inr, ℕ, zero, suc, ◌+◌, ◌<◌, ◌≤◌, Bool, true, false, cond, eqb, ltb, List, []}
+use Rattle.std.proofs.Common.{◌≡◌, ◌⊎◌, inl, inr, ℕ, suc, ◌+◌, ◌<◌, ◌≤◌, Bool, true, false, cond, eqb, ltb, List, []}
 use Rattle.std.proofs.Common.{◌∷◌, ◌++◌, Option, Some, None, length, map, drop, slice_get, refl, sym, ap, subst, ◌∙◌}
-use Rattle.std.proofs.Common.{arith, zero-add}
+use Rattle.std.proofs.Common.{arith, zero-add, drop-cons}
 use Rattle.std.specs.Prelude.{◌&&◌, ◌||◌, not}
 use Rattle.std.specs.List.{filter, list_any}
 use Rattle.std.specs.Str.{bytes_eq}
-use Rattle.std.proofs.lemmas.Bool.{and_from, and_left, and_parts, and_right, cases_eq, cases_lt, eq-eqb, eqb-true, false_from_ne_true}
-use Rattle.std.proofs.lemmas.Bool.{le-ltb, lt-ltb, ne_eqb, not-false, or_cases, or_from, or_left, or_parts}
+use Rattle.std.proofs.lemmas.Bool.{and_from, and_left, and_parts, and_right, cases_eq, cases_lt, eq-eqb, eqb-true}
+use Rattle.std.proofs.lemmas.Bool.{false_from_ne_true, le-ltb, lt-ltb, ne_eqb, not-false, or_from, or_left, or_parts}
 use Rattle.std.proofs.lemmas.Bool.{or_right, true≢false}
 use Rattle.std.proofs.lemmas.List.{append_assoc}
 use Rattle.std.proofs.lemmas.List.Folds.{list_any-append}
-use Rattle.std.proofs.lemmas.Option.{slice_get_within}
+use Rattle.std.proofs.lemmas.Option.{slice_get_within, get_or_from_slice_get}
 use Rattle.std.proofs.lemmas.Slice.Eq.{bytes_eq-Decides}
 use Rattle.std.proofs.Math.ListN.{drop_of_length-le}
 use Rattle.message.proofs.OfHartLemmas.{of_hart-append, of_hart-others, of_hart-own}
 use Rattle.message.specs.Numbered.{messages_from}
 use Rattle.message.specs.OfHart.{of_hart}
 use Rattle.message.specs.declared.message.Message.{Message}
-use Rattle.auditing.proofs.Appending.{any-next}
+use Rattle.auditing.proofs.Appending.{any-next, any_weaker}
 use Rattle.auditing.proofs.OwnMessages.{any_of_hart, fits, same_in}
+use Rattle.auditing.proofs.PushLemmas.{cons_parts}
 use Rattle.auditing.proofs.TakingLemmas.{chosen, has_its_number, of_its_hart, true_is_known}
 use Rattle.auditing.specs.Fates.{fate_of, has_greater, has_number, is_numbered, is_same, is_true, true_ones}
 use Rattle.auditing.specs.Judged.{Judged, is_fate, judged_behind, judged_one}
 use Rattle.auditing.specs.Untouched.{IsUntouched, is_touched}
 use Rattle.auditing.specs.declared.fate.Fate.TheVariants as fate
-
--- What some that a filter keeps pass, some pass.
-any_kept : {X : Type 0} (p q : X → Bool) (xs : List X) → list_any p (filter q xs) ≡ true → list_any p xs ≡ true
-any_kept p q [] is = is
-any_kept p q (x ∷ xs) is = go (any_kept p q xs) (q x) is
-  where
-    go : (list_any p (filter q xs) ≡ true → list_any p xs ≡ true) → (kept : Bool)
-        → list_any p (cond kept (x ∷ filter q xs) (filter q xs)) ≡ true → (p x || list_any p xs) ≡ true
-    go rest true passed =
-        elim (or_cases (p x) (list_any p (filter q xs)) passed) [
-          | inl here ↦ or_left (p x) (list_any p xs) here
-          | inr there ↦ or_right (p x) (list_any p xs) (rest there)
-        ]
-    go rest false passed = or_right (p x) (list_any p xs) (rest passed)
 
 -- What is true, is of this hart and has this number is one of the true ones.
 any_both : {X : Type 0} (p q : X → Bool) (xs : List X)
@@ -50,19 +37,15 @@ any_both p q (x ∷ xs) = go (any_both p q xs) (q x)
     go rest true = ap (λ b. p x || b) rest
     go rest false = rest
 
+-- What some that a filter keeps pass, some pass.
+any_kept : {X : Type 0} (p q : X → Bool) (xs : List X) → list_any p (filter q xs) ≡ true → list_any p xs ≡ true
+any_kept p q xs is =
+    any_weaker (λ x. q x && p x) p (λ x passed. (and_parts (q x) (p x) passed).1) xs (sym (any_both p q xs) ∙ is)
+
 -- An element that is found stands in front of what is behind it.
 drop_at : {X : Type 0} (xs : List X) (n : ℕ) (x : X) → slice_get xs n ≡ Some x → drop n xs ≡ x ∷ drop (suc n) xs
-drop_at [] zero x is = cc
-drop_at [] (suc n) x is = cc
-drop_at (y ∷ ys) zero x is = ap (λ front. front ∷ ys) (same_some y x is)
-  where
-    same_some : {X : Type 0} (a b : X) → Some a ≡ Some b → a ≡ b
-    same_some a b same = cc
-drop_at (y ∷ ys) (suc n) x is = drop_at ys n x is
-
--- The first elements of equal lists are equal, and so are the rests.
-same_first : {X : Type 0} (x y : X) (xs ys : List X) → x ∷ xs ≡ y ∷ ys → (x ≡ y) × (xs ≡ ys)
-same_first x y xs ys same = (cc, cc)
+drop_at xs n x is =
+    drop-cons xs n x (slice_get_within xs n x is) ∙ ap (λ y. y ∷ drop (suc n) xs) (get_or_from_slice_get xs n x x is)
 
 -- The message is numbered by how many stand in front of it. None of those has its number or a greater one.
 record Placed (hart start number : ℕ) (payloads : List (List ℕ)) (front : List Message) (message : Message)
@@ -77,17 +60,11 @@ placed : (hart start number : ℕ) (payloads : List (List ℕ)) (front : List Me
     (back : List Message) → number ≡ start + length front
     → front ++ message ∷ back ≡ messages_from hart start payloads
     → Placed hart start number payloads front message
-placed hart start number [] [] message back at same = absurd (none message back same)
-  where
-    none : (m : Message) (ms : List Message) → m ∷ ms ≡ [] → ⊥
-    none m ms is = cc
-placed hart start number [] (first ∷ front) message back at same = absurd (none first (front ++ message ∷ back) same)
-  where
-    none : (m : Message) (ms : List Message) → m ∷ ms ≡ [] → ⊥
-    none m ms is = cc
+placed hart start number [] [] message back at same = cc
+placed hart start number [] (first ∷ front) message back at same = cc
 placed hart start number (payload ∷ payloads) [] message back at same =
     let first : Message = record { hart = hart; number = start; payload = payload } in
-    let is = (same_first message first back (messages_from hart (start + 1) payloads) same).0 in
+    let is = (cons_parts message first back (messages_from hart (start + 1) payloads) same).0 in
     record {
       hart_is = ap (λ (m : Message). m.hart) is;
       number_is = ap (λ (m : Message). m.number) is ∙ omega (arith, at);
@@ -98,7 +75,7 @@ placed hart start number (payload ∷ payloads) [] message back at same =
 placed hart start number (payload ∷ payloads) (one ∷ front) message back at same =
     let first : Message = record { hart = hart; number = start; payload = payload } in
     let split =
-    same_first one first (front ++ message ∷ back) (messages_from hart (start + 1) payloads) same in
+    cons_parts one first (front ++ message ∷ back) (messages_from hart (start + 1) payloads) same in
     let number_is : one.number ≡ start = ap (λ (m : Message). m.number) split.0 in
     let rest = placed hart (start + 1) number payloads front message back (omega (arith, at)) split.1 in
     record {
@@ -142,10 +119,7 @@ all_marked marked hart start (payload ∷ payloads) none number from below =
 
     go : (rest ≡ [] → start + 1 ≤ number → marked number ≡ true) → (is : Bool) → marked start ≡ is
         → cond (not is) (start ∷ rest) rest ≡ [] → marked number ≡ true
-    go later false is gone = absurd (never start rest gone)
-      where
-        never : (n : ℕ) (ns : List ℕ) → n ∷ ns ≡ [] → ⊥
-        never n ns e = cc
+    go later false is gone = cc
     go later true is gone =
         elim (cases_eq start number) [
           | inl same ↦ sym (ap marked same) ∙ is
@@ -172,10 +146,7 @@ module _ (sent : List Message) (hart : ℕ) (payloads : List (List ℕ))
   its_payload : (payload : List ℕ) (found : Option (List ℕ)) → fits payload found ≡ true → found ≡ Some payload
   its_payload payload None is = cc
   its_payload payload (Some other) is =
-      ap Some (sym (bytes_are payload other is))
-    where
-      bytes_are : (xs ys : List ℕ) → bytes_eq xs ys ≡ true → xs ≡ ys
-      bytes_are xs ys same = (bytes_eq-Decides xs ys).0 same
+      ap Some (sym ((bytes_eq-Decides payload other).0 is))
 
   pub sent_payload : (message : Message) → message.hart ≡ hart → is_true sent message ≡ true
       → slice_get payloads message.number ≡ Some message.payload

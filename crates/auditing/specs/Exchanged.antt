@@ -1,6 +1,6 @@
 -- Harts whose messages came as those of another hart.
-use Rattle.std.specs.Prelude.{ℕ, ◌==◌, ◌&&◌, ◌+◌, not, nat_lt, Bool, true, false, if◌then◌else◌, List, [], ◌∷◌, map}
-use Rattle.std.specs.Prelude.{Option, Some, None}
+use Rattle.std.specs.Prelude.{ℕ, ◌==◌, ◌&&◌, ◌+◌, not, nat_lt, Bool, false, if◌then◌else◌, List, [], ◌∷◌, map, Option}
+use Rattle.std.specs.Prelude.{Some, None}
 use Rattle.std.specs.List.{count_by, filter, range_with_len}
 use Rattle.message.specs.declared.message.Message.{Message}
 use Rattle.auditing.specs.Fates.{is_true}

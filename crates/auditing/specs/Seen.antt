@@ -1,5 +1,5 @@
 -- What is known of a message by SENT.
-use Rattle.std.specs.Prelude.{ℕ, Bool, if◌then◌else◌, List, Option, Some, None}
+use Rattle.std.specs.Prelude.{ℕ, if◌then◌else◌, List, Option, Some, None}
 use Rattle.payload.specs.Same.{same}
 use Rattle.payload.specs.declared.by.By.{By}
 use Rattle.message.specs.declared.message.Message.{Message}

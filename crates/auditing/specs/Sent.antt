@@ -4,14 +4,13 @@ use Rattle.std.specs.Prelude.{max}
 use Rattle.message.specs.Capture.{capture, message_bytes}
 use Rattle.message.specs.Cut.{IsMessage}
 use Rattle.message.specs.OfHart.{of_hart}
-use Rattle.message.specs.Version.{most_harts}
 use Rattle.message.specs.declared.fault.DemuxFault.{DemuxFault}
 use Rattle.message.specs.declared.fault.DemuxFault.TheVariants as demux
 use Rattle.message.specs.declared.header.Header.{Header}
-use Rattle.message.specs.declared.header.Version.TheVariants.{Two}
 use Rattle.message.specs.declared.message.Message.{Message}
 use Rattle.captures.specs.NoMessage.{BeginsNone}
 use Rattle.captures.specs.Whole.{BeginsWith, IsHeaderless, IsWhole}
+pub use Rattle.frames.specs.Start.{known_harts}
 use Rattle.auditing.specs.declared.fault.SentFault.{SentFault}
 use Rattle.auditing.specs.declared.fault.SentFault.TheVariants as fault
 
@@ -36,11 +35,6 @@ abbrev pub AreInTurn : ℕ → List Message → List Message → Type 0
 AreInTurn harts before [] = Unit {0}
 AreInTurn harts before (message ∷ messages) =
     (misplaced harts before message ≡ None) × AreInTurn harts (before ++ message ∷ []) messages
-
--- How many harts may come: those that the header counts, or without a header the most that there may be.
-abbrev pub known_harts : Option Header → ℕ
-known_harts None = most_harts Two
-known_harts (Some header) = header.harts
 
 -- The number of harts from 0 to the highest that has a message.
 abbrev pub harts_in : List Message → ℕ

@@ -1,6 +1,6 @@
 //! What is counted of harts.
 
-ghost use Rattle.std.specs.Prelude.{◌≡◌, ◌<◌, ◌≤◌, ◌*◌, ◌+◌, ◌^◌, ℕ, not};
+ghost use Rattle.std.specs.Prelude.{◌≡◌, ◌<◌, ◌*◌, ◌+◌, ℕ, not};
 ghost use Rattle.std.specs.List.{count_by};
 ghost use Rattle.auditing.specs.Counted.{counts_of, total_of};
 ghost use Rattle.auditing.specs.steps.Summing.{HasFew, HasRoom, with_hart};

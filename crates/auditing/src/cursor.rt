@@ -69,7 +69,7 @@ impl<'a> Cursor<'a> {
 }
 
 /// The place of the first flag that is set, or the count of flags where none is set.
-fn first_set(flags: &[bool]) -> usize
+pub(crate) fn first_set(flags: &[bool]) -> usize
     ensures { result ≡ position_or_len (λ flag. flag) flags.now }
 {
     for (place, flag) in flags.iter().enumerate() {

@@ -1,6 +1,6 @@
 //! Harts whose messages came as those of another hart.
 
-ghost use Rattle.std.specs.Prelude.{◌≡◌, IfOk, List, map, ℕ};
+ghost use Rattle.std.specs.Prelude.{◌≡◌, IfOk, map};
 ghost use Rattle.auditing.specs.Exchanged.{first_exchanged, is_most};
 ghost use Rattle.auditing.specs.steps.Moving.{changed_at, counted_once, moved_more, none_moved};
 

@@ -8,6 +8,7 @@ ghost use Rattle.auditing.specs.Losing.{runs_of};
 ghost use Rattle.auditing.specs.Unset.{lost_in};
 ghost use Rattle.auditing.specs.declared.lost.Lost.{Lost as AnyLost};
 
+use crate::cursor::first_set;
 use std::marker::Model;
 
 /// A longest run of numbers of a hart that were lost.
@@ -53,7 +54,7 @@ impl<'a> LostRuns<'a> {
         let came = self.came;
         let (_, left) = came.split_at(first_lost(came));
         let first = self.number + (came.len() - left.len()) as u64;
-        let (run, behind) = left.split_at(first_come(left));
+        let (run, behind) = left.split_at(first_set(left));
         self.came = behind;
         self.number = first + run.len() as u64;
         if run.is_empty() {
@@ -97,18 +98,6 @@ fn first_lost(came: &[bool]) -> usize
 {
     for (place, came) in came.iter().enumerate() {
         if !*came {
-            return place;
-        }
-    }
-    came.len()
-}
-
-/// The place of the first flag that is set, or the count of flags where none is set.
-fn first_come(came: &[bool]) -> usize
-    ensures { result ≡ position_or_len (λ flag. flag) came.now }
-{
-    for (place, came) in came.iter().enumerate() {
-        if *came {
             return place;
         }
     }

@@ -30,6 +30,7 @@ const ASKED: usize = 8;
 /// for the table fails, harts go on to be asked, and as much later the table is tried again.
 #[derive(Drop)]
 pub(crate) struct Owners<A: Allocator> {
+    /// The messages of SENT that were put in, with the only hart that has each.
     pub(crate) table: Table<A>,
     /// Whether all messages of SENT are in the table.
     pub(crate) complete: bool,

@@ -1,7 +1,6 @@
 //! The payloads of messages, by hart.
 
 ghost use Rattle.std.specs.Prelude.{◌≡◌, ◌++◌, [], ◌∷◌, ◌<◌, ℕ, List, IfOk, OnOk, replicate};
-ghost use Rattle.payload.specs.Same.{known_by};
 ghost use Rattle.auditing.specs.Split.{AreSplit};
 ghost use Rattle.auditing.specs.steps.Splitting.{added};
 

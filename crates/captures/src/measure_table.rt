@@ -5,8 +5,7 @@ ghost use Rattle.std.specs.Io.KnownBytes.{Appends};
 ghost use Rattle.output.specs.Begun.{AppendsBeginning};
 ghost use Rattle.captures.specs.Bounds.{AreWithin, most_counted};
 ghost use Rattle.captures.specs.Measures.{total};
-ghost use Rattle.captures.specs.Table.{column_names, hart_rows, measure_row, measures_table, table_of};
-ghost use Rattle.captures.specs.steps.Name.{name_text};
+ghost use Rattle.captures.specs.Table.{column_names, hart_rows, measures_table, table_of};
 
 use crate::measure_row::{Name, Row};
 use crate::measured_harts::{Harts, Logged, Measured};
@@ -73,7 +72,12 @@ fn write_table<H: Harts, W: Write>(harts: &H, sink: &mut W) -> Result<(), WriteF
     if harts.count() <= 1 {
         return Ok(());
     }
-    write_row(Name::All, &all, sink)
+    let row = Row {
+        name: Name::All,
+        measures: all,
+    };
+    write_text(sink, row)?;
+    Ok(())
 }
 
 /// Writes the line that names the columns.
@@ -98,24 +102,12 @@ fn write_harts<H: Harts, W: Write>(harts: &H, sink: &mut W) -> Result<Measures, 
     let mut all = Measures::none();
     for hart in 0..harts.count() {
         let measures = harts.measures(hart);
-        write_row(Name::Hart(hart), &measures, sink)?;
+        let row = Row {
+            name: Name::Hart(hart),
+            measures,
+        };
+        write_text(sink, row)?;
         all.add(&measures);
     }
     Ok(all)
-}
-
-/// Writes a row.
-fn write_row<W: Write>(name: Name, measures: &Measures, sink: &mut W) -> Result<(), WriteFault>
-    ensures text { OnOk result (Appends (W.contents sink.old) (W.contents sink.new)
-        (measure_row (name_text name) measures.now)) }
-    ensures begun { AppendsBeginning (measure_row (name_text name) measures.now)
-        (W.contents sink.old) (W.contents sink.new) }
-    ensures fault { IfErr result (λ fault. fault ≡ WriteFault.Write) }
-{
-    let row = Row {
-        name,
-        measures: *measures,
-    };
-    write_text(sink, row)?;
-    Ok(())
 }

@@ -1,19 +1,18 @@
 -- Messages that were sent are found each at its place.
 use Rattle.std.proofs.Common.{◌≡◌, ◌⊎◌, ◌+◌, ◌++◌, ℕ, All, true, false, List, [], ◌∷◌}
 use Rattle.std.proofs.Common.{drop, length, refl, ap, ap₂, sym, ◌∙◌, arith, inl, inr, drop_at, append-nil}
-use Rattle.std.proofs.lemmas.Bool.{and_from, and_left}
+use Rattle.std.proofs.lemmas.Bool.{and_from, and_left, or_left, or_from}
 use Rattle.std.proofs.lemmas.List.{length-append}
 use Rattle.std.proofs.lemmas.List.Elements.{All-head, All-tail}
 use Rattle.message.specs.Capture.{capture, message_bytes}
 use Rattle.message.specs.Cut.{IsMessage}
 use Rattle.message.specs.declared.message.Message.{Message}
-use Rattle.frames.specs.Frame.{frame_in, frame_size, is_complete}
+use Rattle.frames.specs.Frame.{frame_size, is_complete}
 use Rattle.frames.specs.Written.{Scattered, frames_from, run_at, scattered_bytes, scattered_from}
 use Rattle.frames.specs.declared.span.Span.{Span}
 use Rattle.frames.specs.declared.span.Span.TheVariants.{Frame, Bytes}
 use Rattle.frames.proofs.FrameLemmas.{frame_in-message, is_complete-message}
 use Rattle.frames.proofs.ScatteredLemmas.{after_message}
-use Rattle.frames.proofs.TakenLemmas.{or_at_left, or_neither}
 use Rattle.frames.specs.Amid.{IsSentMessage, NoneBegins, NoneBeginsIn}
 use Rattle.frames.specs.Passages.{Sees, spans_from}
 use Rattle.frames.proofs.KnownLemmas.{first_by_number}
@@ -59,19 +58,19 @@ complete sees offset (m ∷ ms) none all =
     ap goes_on (after_message m rest) ∙ goes_on-capture ms others in
     let taken : is_taken_first sees (message_bytes m ++ rest) ≡ true =
     first_by_number sees (message_bytes m ++ rest) none (is_complete-message m rest is)
-    ∙ or_at_left (goes_on (after (message_bytes m ++ rest))) _ goes in
+    ∙ or_left (goes_on (after (message_bytes m ++ rest))) _ goes in
     message-taken sees offset m rest is taken
     ∙ ap (λ (l : List Span). Frame offset m ∷ l) (complete sees (offset + length (message_bytes m)) ms none others)
 
 -- Where no message begins, none is taken.
 none_anywhere : (sees : Sees) (xs : List ℕ) → is_complete xs ≡ false → is_taken_anywhere sees xs ≡ false
 none_anywhere sees xs none =
-    or_neither (is_sent_at sees xs) (is_sure (is_known_at sees) xs) (and_left (is_complete xs) _ none)
+    or_from (is_sent_at sees xs) (is_sure (is_known_at sees) xs) (and_left (is_complete xs) _ none)
     (and_left (is_known_at sees xs) _ (and_left (is_complete xs) _ none))
 
 none_taken : (sees : Sees) (xs : List ℕ) → is_complete xs ≡ false → is_taken_first sees xs ≡ false
 none_taken sees xs none =
-    or_neither (is_taken_anywhere sees xs) (is_kept sees xs) (none_anywhere sees xs none)
+    or_from (is_taken_anywhere sees xs) (is_kept sees xs) (none_anywhere sees xs none)
     (and_left (is_complete xs) _ none)
 
 -- Bytes before the end, or before a message that was sent, are one run, or no span where there are none.
@@ -101,7 +100,7 @@ run-before sees offset (b ∷ before) tail none ends =
 message-sent : (sees : Sees) (m : Message) (rest : List ℕ) → IsSentMessage sees m
     → is_taken_anywhere sees (message_bytes m ++ rest) ≡ true
 message-sent sees m rest is =
-    or_at_left (is_sent_at sees (message_bytes m ++ rest)) _
+    or_left (is_sent_at sees (message_bytes m ++ rest)) _
     (and_from _ _ (is_complete-message m rest is.ranges)
     (ap (λ (n : Message). is_same (sees n)) (frame_in-message m rest is.ranges) ∙ ap is_same is.sent))
 

@@ -2,8 +2,9 @@
 use Rattle.std.proofs.Common.{◌≡◌, ◌↔◌, ◌<◌, ◌≤◌, ◌+◌, ◌==◌, if◌then◌else◌, None, Some, Ok, ◌++◌, ℕ, Bool, true, false}
 use Rattle.std.proofs.Common.{not, nat_lt, List}
 use Rattle.std.proofs.Common.{IsTrue, length, take, drop, refl, sym, ap, ap₂, subst, ◌∙◌, arith, length-take-le}
-use Rattle.std.proofs.lemmas.Bool.{and_parts, and_from, ne_eqb, ltb-true, ltb-false, lt-ltb, le-ltb}
+use Rattle.std.proofs.lemmas.Bool.{and_parts, and_from, ne_eqb, ltb-true, ltb-false, lt-ltb, le-ltb, not-true}
 use Rattle.std.proofs.lemmas.List.{drop-take, length-append, length-drop}
+use Rattle.std.proofs.lemmas.Option.{same_Some}
 use lib.Seq.{take-append_seam}
 use Rattle.byteorder.specs.Endian.{little_number}
 use Rattle.byteorder.specs.Numbers.{little_from-take, little_number-reads_back}
@@ -18,10 +19,6 @@ use Rattle.message.proofs.Heads.{AreBytes-drop}
 use Rattle.frames.specs.Frame.{BeginsFrame, BeginsMessage, IsFrame, message_in, payload_in, frame_in, frame_size}
 use Rattle.frames.specs.Frame.{hart_in, is_complete, is_frame, length_in, number_in, end_of_frames}
 
-not_false : (b : Bool) → not b ≡ true → b ≡ false
-not_false false e = refl
-not_false true e = sym e
-
 -- What a complete message has.
 pub record Complete (bytes : List ℕ) : Type 0 where
   pub some : 1 ≤ length_in bytes
@@ -35,8 +32,8 @@ complete bytes e =
     in
     record {
       some = ltb-true 0 (length_in bytes) parts.0;
-      few = ltb-false 18 (length_in bytes) (not_false _ others.0);
-      fits = ltb-false (length bytes) (frame_size bytes) (not_false _ others.1);
+      few = ltb-false 18 (length_in bytes) (not-true _ others.0);
+      fits = ltb-false (length bytes) (frame_size bytes) (not-true _ others.1);
     }
 
 pub is_complete-from : (bytes : List ℕ) → Complete bytes → is_complete bytes ≡ true
@@ -162,13 +159,10 @@ pub message_in-begins : (m : Message) (bytes : List ℕ) → AreBytes bytes
     → (message_in bytes ≡ Some m) ↔ BeginsMessage m bytes
 message_in-begins m bytes are = (λ e. found (is_complete bytes) refl e, λ b. only b)
   where
-    some_same : {x y : Message} → Some x ≡ Some y → x ≡ y
-    some_same e = cc
-
     found : (c : Bool) → is_complete bytes ≡ c → (if c then Some (frame_in bytes) else None) ≡ Some m
         → BeginsMessage m bytes
     found true is e =
-        subst (λ (message : Message). BeginsMessage message bytes) (some_same e) (begins_complete bytes are is)
+        subst (λ (message : Message). BeginsMessage message bytes) (same_Some _ _ e) (begins_complete bytes are is)
     found false is e = cc
 
     only : BeginsMessage m bytes → message_in bytes ≡ Some m

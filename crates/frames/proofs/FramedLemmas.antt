@@ -1,6 +1,6 @@
 -- Whether bytes are messages to their end, message by message.
-use Rattle.std.proofs.Common.{◌≡◌, ◌==◌, ◌-◌, ◌+◌, ◌<◌, ◌≤◌, ℕ, zero, suc, All, true, false, List, [], ◌∷◌, Some, None}
-use Rattle.std.proofs.Common.{◌++◌, drop, length, refl, ap, sym, ◌∙◌, arith}
+use Rattle.std.proofs.Common.{◌≡◌, ◌==◌, ◌-◌, ◌≤◌, ℕ, zero, suc, All, true, false, List, [], ◌∷◌, Some, None, ◌++◌}
+use Rattle.std.proofs.Common.{drop, length, refl, ap, sym, ◌∙◌, arith}
 use Rattle.std.proofs.lemmas.Bool.{and_left, and_parts, ne_eqb}
 use Rattle.std.proofs.lemmas.List.{length-drop}
 use Rattle.std.proofs.lemmas.List.Elements.{All-cons, All-head, All-tail}
@@ -41,15 +41,6 @@ pub next : (xs : List ℕ) (size : ℕ) → Some size ≡ message_size xs → is
 next xs size e =
     let its = guided.its xs size e in
     framed-next xs its.0 ∙ ap (λ (n : ℕ). is_framed (drop n xs)) (sym its.1)
-
-pub shorter : (xs : List ℕ) (size : ℕ) → Some size ≡ message_size xs → length (drop size xs) < length xs
-shorter xs size e =
-    let its = guided.its xs size e in
-    let same = its.1 in
-    let c = complete xs its.0 in
-    let fits = c.fits in
-    let left = length-drop size xs in
-    omega (arith, same, fits, left)
 
 pub end : (xs : List ℕ) → None ≡ message_size xs → (length xs == 0) ≡ is_framed xs
 end xs e = framed-end xs (none_begins xs e)

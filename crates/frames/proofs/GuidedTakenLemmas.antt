@@ -1,7 +1,8 @@
 -- The message that is taken.
 use Rattle.std.proofs.Common.{◌≡◌, ◌≤◌, ◌+◌, Bool, true, false, if◌then◌else◌, ℕ, List, ◌∷◌, Some, None, length, drop}
-use Rattle.std.proofs.Common.{refl, ap, arith, length-take-le, sym}
+use Rattle.std.proofs.Common.{refl, ap, arith, length-take-le}
 use Rattle.std.proofs.lemmas.List.{length-drop}
+use Rattle.std.proofs.lemmas.Option.{same_Some}
 use Rattle.frames.proofs.FrameLemmas.{Complete, complete}
 use Rattle.frames.specs.Frame.{frame_in, frame_size, is_complete, length_in, message_size}
 use Rattle.frames.specs.declared.span.Span.TheVariants.{Frame}
@@ -12,16 +13,10 @@ use Rattle.frames.specs.GuidedTaken.{Sees, is_taken_first}
 
 -- Bytes that begin with a message of so many bytes begin with a complete one.
 module _ (bytes : List ℕ) (count : ℕ) (begins : Some count ≡ message_size bytes) where
-  same_some : (a b : ℕ) → Some a ≡ Some b → a ≡ b
-  same_some a b e = cc
-
-  never : Some count ≡ None → ⊥
-  never e = cc
-
   both : (c : Bool) → is_complete bytes ≡ c → Some count ≡ (if c then Some (frame_size bytes) else None)
       → (is_complete bytes ≡ true) × (count ≡ frame_size bytes)
-  both true is e = (is, same_some count (frame_size bytes) e)
-  both false is e = absurd (never e)
+  both true is e = (is, same_Some count (frame_size bytes) e)
+  both false is e = cc
 
   pub its : (is_complete bytes ≡ true) × (count ≡ frame_size bytes)
   its = both (is_complete bytes) refl begins
@@ -44,12 +39,9 @@ module _ (bytes : List ℕ) (count : ℕ) (begins : Some count ≡ message_size 
 pub none_begins : (bytes : List ℕ) → None ≡ message_size bytes → is_complete bytes ≡ false
 none_begins bytes none = by (is_complete bytes) refl none
   where
-    never : (a : ℕ) → Some a ≡ None → ⊥
-    never a e = cc
-
     by : (c : Bool) → is_complete bytes ≡ c → None ≡ (if c then Some (frame_size bytes) else None)
         → is_complete bytes ≡ false
-    by true is e = absurd (never (frame_size bytes) (sym e))
+    by true is e = cc
     by false is e = is
 
 -- Where it is taken, it is the first span from its place on.

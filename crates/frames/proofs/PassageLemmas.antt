@@ -1,10 +1,8 @@
 -- The first span of bytes, and the spans after it.
 use Rattle.std.proofs.Common.{◌≡◌, ◌⊎◌, ◌<◌, ◌≤◌, ◌+◌, ◌-◌, ℕ, zero, suc, Bool, true, false, if◌then◌else◌, List, []}
-use Rattle.std.proofs.Common.{◌∷◌, drop, length, min, refl, ap, ap₂, sym, ◌∙◌, arith, inl, inr}
-use Rattle.std.proofs.Math.Nat.{min-eq_left, min-eq_right}
-use Rattle.std.proofs.lemmas.Bool.{cases_lt}
-use Rattle.std.proofs.lemmas.List.{drop-drop, length-drop, nil_from_length}
-use Rattle.frames.proofs.TakenLemmas.{or_at_left}
+use Rattle.std.proofs.Common.{◌∷◌, drop, length, refl, ap, ap₂, sym, ◌∙◌, arith, inl, inr}
+use Rattle.std.proofs.lemmas.Bool.{or_left}
+use Rattle.std.proofs.lemmas.List.{drop-drop}
 use Rattle.frames.specs.Frame.{frame_in, frame_size}
 use Rattle.frames.specs.Spans.{with_byte}
 use Rattle.frames.specs.declared.span.Span.{Span}
@@ -18,7 +16,7 @@ use Rattle.frames.specs.GuidedTaken.{is_kept, is_taken, is_taken_anywhere, is_ta
 pub anywhere-taken : (sees : Sees) (astray : Bool) (xs : List ℕ) → is_taken_anywhere sees xs ≡ true
     → is_taken sees astray xs ≡ true
 anywhere-taken sees true xs taken = taken
-anywhere-taken sees false xs taken = or_at_left (is_taken_anywhere sees xs) (is_kept sees xs) taken
+anywhere-taken sees false xs taken = or_left (is_taken_anywhere sees xs) (is_kept sees xs) taken
 
 -- What belongs to a message that was taken is passed over at once.
 pub spans-rest : (sees : Sees) (astray : Bool) (n offset : ℕ) (xs : List ℕ)
@@ -121,22 +119,3 @@ next-run sees at count bytes rest here none some within passed ends =
     ap (spans_from sees at) (sym here) ∙ spans-run sees false count at rest some within none passed ends
     ∙ ap (λ (l : List ℕ). Bytes at count ∷ spans_from sees (at + count) l)
     (ap (drop count) here ∙ drop-drop count at bytes)
-
--- From a place after the last byte there is no span.
-pub spans-least : (sees : Sees) (from : ℕ) (bytes : List ℕ)
-    → spans_from sees (min from (length bytes)) (drop (min from (length bytes)) bytes)
-    ≡ spans_from sees from (drop from bytes)
-spans-least sees from bytes =
-    elim (cases_lt from (length bytes)) [
-      | inl within ↦
-          let least : min from (length bytes) ≡ from = min-eq_left (omega (arith, within)) in
-          ap (λ (at : ℕ). spans_from sees at (drop at bytes)) least
-      | inr past ↦
-          let least : min from (length bytes) ≡ length bytes = min-eq_right past in
-          let left = length-drop from bytes in
-          let all = length-drop (length bytes) bytes in
-          let none : drop from bytes ≡ [] = nil_from_length (drop from bytes) (omega (arith, left, past)) in
-          let end : drop (length bytes) bytes ≡ [] = nil_from_length (drop (length bytes) bytes) (omega (arith, all)) in
-          ap (λ (at : ℕ). spans_from sees at (drop at bytes)) least ∙ ap (spans_from sees (length bytes)) end
-          ∙ sym (ap (spans_from sees from) none)
-    ]

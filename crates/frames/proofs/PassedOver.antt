@@ -1,7 +1,7 @@
 -- Which known messages are passed over, place by place.
 use Rattle.std.proofs.Common.{◌≡◌, ◌⊎◌, ◌<◌, ◌≤◌, ◌+◌, ◌-◌, ◌||◌, ℕ, zero, suc, Bool, true, false, not, List, [], ◌∷◌}
-use Rattle.std.proofs.Common.{drop, length, refl, ap, sym, subst, arith, inl, inr, length-take-le}
-use Rattle.std.proofs.lemmas.Bool.{and_cases, and_parts, cases_lt, or_cases, or_parts}
+use Rattle.std.proofs.Common.{drop, length, refl, ap, subst, arith, inl, inr, length-take-le}
+use Rattle.std.proofs.lemmas.Bool.{and_cases, and_parts, cases_lt, or_cases, or_parts, not-false}
 use Rattle.std.proofs.lemmas.List.{length-drop}
 use Rattle.message.proofs.Answering.{not_both}
 use Rattle.message.specs.Capture.{message_bytes}
@@ -51,17 +51,13 @@ not_anywhere : (sees : Sees) (xs : List ℕ) → is_taken_anywhere sees xs ≡ f
 not_anywhere sees xs none known =
     by (and_cases (is_known_at sees xs) _ (or_parts (is_sent_at sees xs) (is_sure (is_known_at sees) xs) none).1)
   where
-    turned : (b : Bool) → not b ≡ false → b ≡ true
-    turned true e = refl
-    turned false e = sym e
-
     by : (is_known_at sees xs ≡ false)
         ⊎ ((is_firm (is_known_at sees) xs || not (has_firm_inside (is_known_at sees) xs)) ≡ false)
         → (is_firm (is_known_at sees) xs ≡ false) × (has_firm_inside (is_known_at sees) xs ≡ true)
     by (inl unknown) = absurd (not_both (is_known_at sees xs) known unknown)
     by (inr neither) =
         let parts = or_parts (is_firm (is_known_at sees) xs) (not (has_firm_inside (is_known_at sees) xs)) neither in
-        (parts.0, turned (has_firm_inside (is_known_at sees) xs) parts.1)
+        (parts.0, not-false (has_firm_inside (is_known_at sees) xs) parts.1)
 
 not_taken : (sees : Sees) (astray : Bool) (xs : List ℕ) → is_taken sees astray xs ≡ false → is_known_at sees xs ≡ true
     → (is_firm (is_known_at sees) xs ≡ false) × (has_firm_inside (is_known_at sees) xs ≡ true)

@@ -1,8 +1,7 @@
 -- Messages that were written are found each at its place.
-use Rattle.std.proofs.Common.{◌≡◌, ◌⊎◌, ◌<◌, ◌≤◌, ◌+◌, ◌++◌, ℕ, zero, suc, All, Bool, true, false, Contains, List, []}
-use Rattle.std.proofs.Common.{◌∷◌}
+use Rattle.std.proofs.Common.{◌≡◌, ◌⊎◌, ◌<◌, ◌≤◌, ◌+◌, ◌++◌, ℕ, zero, suc, All, true, false, Contains, List, [], ◌∷◌}
 use Rattle.std.proofs.Common.{not, drop, length, refl, ap, ap₂, sym, subst, ◌∙◌, arith, inl, inr, drop_at, append-nil}
-use Rattle.std.proofs.lemmas.Bool.{and_from, and_left}
+use Rattle.std.proofs.lemmas.Bool.{and_from, and_left, or_left, or_right, false_from_ne_true}
 use Rattle.std.proofs.lemmas.List.{drop-drop, length-append}
 use Rattle.std.proofs.lemmas.List.Elements.{All-head, All-tail}
 use Rattle.message.specs.Capture.{capture, message_bytes}
@@ -17,11 +16,7 @@ use Rattle.frames.specs.declared.span.Span.{Span}
 use Rattle.frames.specs.declared.span.Span.TheVariants.{Frame, Bytes}
 use Rattle.frames.proofs.FrameLemmas.{frame_in-message, is_frame-message}
 use Rattle.frames.proofs.SpanLemmas.{Ends, spans-frame, spans-run}
-use Rattle.frames.proofs.TakenLemmas.{inside-none, or_at_left, or_at_right}
-
-pub is_false : (b : Bool) → (b ≡ true → ⊥) → b ≡ false
-is_false false not_true = refl
-is_false true not_true = absurd (not_true refl)
+use Rattle.frames.proofs.TakenLemmas.{inside-none}
 
 -- What follows the bytes of a message.
 pub after_message : (m : Message) (rest : List ℕ)
@@ -54,7 +49,7 @@ written known offset (m ∷ ms) all =
     let frame = is_frame-message known m rest is in
     let firm : is_firm (is_frame known) (message_bytes m ++ rest) ≡ true =
     and_from _ _ frame (ap (ends_or_goes_on (is_frame known)) (after_message m rest) ∙ goes_on ms others) in
-    let taken : is_taken known (message_bytes m ++ rest) ≡ true = and_from _ _ frame (or_at_left _ _ firm) in
+    let taken : is_taken known (message_bytes m ++ rest) ≡ true = and_from _ _ frame (or_left _ _ firm) in
     message-taken known offset m rest is.ranges taken
     ∙ ap (λ (l : List Span). Frame offset m ∷ l) (written known (offset + length (message_bytes m)) ms others)
   where
@@ -64,7 +59,7 @@ written known offset (m ∷ ms) all =
 
 -- Where no frame begins, none is taken.
 none_taken : (known : ℕ) (xs : List ℕ) → (is_frame known xs ≡ true → ⊥) → is_taken known xs ≡ false
-none_taken known xs none = and_left (is_frame known xs) _ (is_false (is_frame known xs) none)
+none_taken known xs none = and_left (is_frame known xs) _ (false_from_ne_true (is_frame known xs) none)
 
 -- Bytes before the end, or before a frame that is taken, are one run, or no span where there are none.
 run-before : (known offset : ℕ) (before tail : List ℕ)
@@ -139,12 +134,12 @@ scattered known offset (s ∷ more) last all alone =
     (λ frame. too_early k less (first_or_later offset s more (offset + k) (alone k frame))) in
     let inside : (k : ℕ) → 1 ≤ k → k < frame_size tail → is_firm (is_frame known) (drop k tail) ≡ false =
     λ k some less. and_left (is_frame known (drop k tail)) _
-    (is_false (is_frame known (drop k tail))
+    (false_from_ne_true (is_frame known (drop k tail))
     (λ frame. amid k some less (first_or_later offset s more (offset + (length s.before + k))
     (alone (length s.before + k) (ap (is_frame known) (drop_after k s.before tail) ∙ frame))))) in
     let frame = is_frame-message known m rest is in
     let taken : is_taken known tail ≡ true =
-    and_from _ _ frame (or_at_right (is_firm (is_frame known) tail) _
+    and_from _ _ frame (or_right (is_firm (is_frame known) tail) _
     (ap not (inside-none (is_frame known) tail inside))) in
     let apart : NoOtherFrame known next rest (offsets_from next more) =
     λ k frame. beyond k (first_or_later offset s more (offset + (length s.before + (length (message_bytes m) + k)))

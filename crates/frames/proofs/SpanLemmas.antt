@@ -110,21 +110,20 @@ next-run known at count bytes rest here none some within passed ends =
     each zero less = none
     each (suc k) less = passed (suc k) (omega arith) less
 
--- From a place after the last byte there is no span.
-pub spans-least : (known from : ℕ) (bytes : List ℕ)
-    → spans_from known (min from (length bytes)) (drop (min from (length bytes)) bytes)
-    ≡ spans_from known from (drop from bytes)
-spans-least known from bytes =
+-- What there is from a place on is nothing from a place after the last byte, and so the same from the end on.
+pub least_place : {X : Type 0} (left : ℕ → List ℕ → List X) → ((at : ℕ) → left at [] ≡ []) → (from : ℕ)
+    (bytes : List ℕ) → left (min from (length bytes)) (drop (min from (length bytes)) bytes) ≡ left from (drop from bytes)
+least_place left nothing from bytes =
     elim (cases_lt from (length bytes)) [
       | inl within ↦
           let least : min from (length bytes) ≡ from = min-eq_left (omega (arith, within)) in
-          ap (λ (at : ℕ). spans_from known at (drop at bytes)) least
+          ap (λ (at : ℕ). left at (drop at bytes)) least
       | inr past ↦
           let least : min from (length bytes) ≡ length bytes = min-eq_right past in
-          let left = length-drop from bytes in
+          let gone = length-drop from bytes in
           let all = length-drop (length bytes) bytes in
-          let none : drop from bytes ≡ [] = nil_from_length (drop from bytes) (omega (arith, left, past)) in
+          let none : drop from bytes ≡ [] = nil_from_length (drop from bytes) (omega (arith, gone, past)) in
           let end : drop (length bytes) bytes ≡ [] = nil_from_length (drop (length bytes) bytes) (omega (arith, all)) in
-          ap (λ (at : ℕ). spans_from known at (drop at bytes)) least ∙ ap (spans_from known (length bytes)) end
-          ∙ sym (ap (spans_from known from) none)
+          ap (λ (at : ℕ). left at (drop at bytes)) least ∙ ap (left (length bytes)) end ∙ nothing (length bytes)
+          ∙ sym (nothing from) ∙ sym (ap (left from) none)
     ]

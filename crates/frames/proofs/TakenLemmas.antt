@@ -1,22 +1,9 @@
 -- Firm messages of a kind at a row of places.
-use Rattle.std.proofs.Common.{◌≡◌, ◌<◌, ◌≤◌, ◌+◌, ◌-◌, ◌||◌, ℕ, zero, suc, Bool, true, false, List, drop, refl, ap}
-use Rattle.std.proofs.Common.{◌∙◌, arith}
+use Rattle.std.proofs.Common.{◌≡◌, ◌<◌, ◌≤◌, ◌+◌, ◌-◌, ℕ, zero, suc, true, false, List, drop, refl, ap, ◌∙◌, arith}
 use Rattle.std.proofs.lemmas.List.{drop-drop}
-use Rattle.message.proofs.Answering.{not_both}
+use Rattle.std.proofs.lemmas.Bool.{or_left, or_right, or_from}
 use Rattle.frames.specs.Frame.{frame_size}
 use Rattle.frames.specs.Taken.{Kind, has_firm, has_firm_inside, is_firm}
-
-pub or_at_left : (x y : Bool) → x ≡ true → (x || y) ≡ true
-or_at_left true y e = refl
-or_at_left false y e = absurd (not_both false e refl)
-
-pub or_at_right : (x y : Bool) → y ≡ true → (x || y) ≡ true
-or_at_right true y e = refl
-or_at_right false y e = e
-
-pub or_neither : (x y : Bool) → x ≡ false → y ≡ false → (x || y) ≡ false
-or_neither true y e f = absurd (not_both true refl e)
-or_neither false y e f = f
 
 -- A place after the first is a place of what follows the first byte.
 pub drop_later : (k : ℕ) (xs : List ℕ) → drop k (drop 1 xs) ≡ drop (suc k) xs
@@ -26,9 +13,9 @@ drop_later k xs = drop-drop k 1 xs ∙ ap (λ (n : ℕ). drop n xs) (let e : 1 +
 pub has_firm-here : (kind : Kind) (n k : ℕ) (xs : List ℕ) → k < n → is_firm kind (drop k xs) ≡ true
     → has_firm kind n xs ≡ true
 has_firm-here kind zero k xs less firm = absurd (omega (arith, less))
-has_firm-here kind (suc n) zero xs less firm = or_at_left (is_firm kind xs) _ firm
+has_firm-here kind (suc n) zero xs less firm = or_left (is_firm kind xs) _ firm
 has_firm-here kind (suc n) (suc k) xs less firm =
-    or_at_right (is_firm kind xs) _
+    or_right (is_firm kind xs) _
     (has_firm-here kind n k (drop 1 xs) (omega (arith, less))
     (ap (is_firm kind) (drop_later k xs) ∙ firm))
 
@@ -37,7 +24,7 @@ pub has_firm-none : (kind : Kind) (n : ℕ) (xs : List ℕ) → ((k : ℕ) → k
     → has_firm kind n xs ≡ false
 has_firm-none kind zero xs none = refl
 has_firm-none kind (suc n) xs none =
-    or_neither (is_firm kind xs) _ (none 0 (omega arith))
+    or_from (is_firm kind xs) _ (none 0 (omega arith))
     (has_firm-none kind n (drop 1 xs)
     (λ k less. ap (is_firm kind) (drop_later k xs) ∙ none (suc k) (omega (arith, less))))
 

@@ -9,7 +9,6 @@ ghost use Rattle.frames.specs.Taken.{has_firm_inside, is_firm, is_sure};
 use crate::frame::frame_size;
 use crate::sent::{Sent, Sight};
 use crate::{message_in, message_size};
-use message::Message;
 
 /// Whether bytes end, or begin with a complete message.
 #[inline(always)]

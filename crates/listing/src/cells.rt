@@ -17,7 +17,7 @@ use std::fmt;
 
 /// The line of the names of the columns.
 #[derive(Clone, Copy)]
-pub struct Columns;
+pub(crate) struct Columns;
 
 impl fmt::Display for Columns {
     ghost output = { λ names. Some (fields_line columns) };

@@ -9,13 +9,15 @@ ghost use Rattle.listing.specs.Entries.{effect_entry, incomplete_entry, start_te
 ghost use Rattle.listing.specs.Listing.{names_in};
 ghost use Rattle.listing.specs.steps.Message.{denies_memory, effect_of, fault_entry};
 
+use crate::cells::{Columns, IncompleteRow};
 use crate::form::Form;
 use crate::input::ListInput;
-use crate::lines::{write_effect_line, write_offset_line, write_refused_line};
-use crate::rows::{write_columns, write_effect_row, write_incomplete_row, write_refused_row};
-use captures::write_header_line;
+use crate::lines::{write_effect_line, write_refused_line};
+use crate::rows::{write_effect_row, write_refused_row};
+use captures::{Offset, write_header_line};
 use decoder::DecodeFault;
 use message::{Header, Message};
+use output::write_text;
 use payload::Mode;
 use receiver::ReceiveFault;
 use retire::{Event, WriteFault};
@@ -53,7 +55,10 @@ pub(crate) fn write_start<W: Write>(
             Some(header) => write_header_line(sink, &header),
             None => Ok(()),
         },
-        Form::Table => write_columns(sink),
+        Form::Table => {
+            write_text(sink, Columns)?;
+            Ok(())
+        }
     }
 }
 
@@ -120,8 +125,13 @@ pub(crate) fn write_incomplete<W: Write>(form: Form, at: At, sink: &mut W) -> Re
         (W.contents sink.old) (W.contents sink.new) }
     ensures fault { IfErr result (λ fault. fault ≡ WriteFault.Write) }
 {
+    let At { number, offset } = at;
     match form {
-        Form::Lines { .. } => write_offset_line(at.offset, sink),
-        Form::Table => write_incomplete_row(at, sink),
+        Form::Lines { .. } => {
+            let offset = Offset(offset);
+            write_text(sink, format_args!("{offset}\n"))?;
+        }
+        Form::Table => write_text(sink, IncompleteRow { at: number, offset })?,
     }
+    Ok(())
 }

@@ -7,7 +7,7 @@
 //! says that `csv` reads back each row.
 //!
 //! [`MessageText`], [`write_places`], [`SettledRows`] and [`PacketEnding`] are the parts of such a line, for other lists of
-//! messages. [`Columns`], [`MessageCells`], [`read_waits`], [`read_closes`], [`flag_field`], [`RowCells`], [`Place`] and
+//! messages. [`MessageCells`], [`read_waits`], [`read_closes`], [`flag_field`], [`RowCells`], [`Place`] and
 //! [`write_names`] are the parts of such a table.
 #![tactic(auto)]
 
@@ -29,7 +29,7 @@ mod rows;
 mod settled_rows;
 
 pub use capture_listing::list_capture;
-pub use cells::{Columns, MessageCells, Place, flag_field};
+pub use cells::{MessageCells, Place, flag_field};
 pub use endings::{read_closes, read_waits};
 pub use form::Form;
 pub use input::ListInput;

@@ -4,7 +4,7 @@ ghost use Rattle.std.specs.Prelude.{◌≡◌, IfErr, OnOk};
 ghost use Rattle.std.specs.Io.KnownBytes.{Appends};
 ghost use Rattle.output.specs.Begun.{AppendsBeginning};
 ghost use Rattle.payload.specs.Reading.{reading};
-ghost use Rattle.listing.specs.Lines.{effect_line, offset_line, refused_line};
+ghost use Rattle.listing.specs.Lines.{effect_line, refused_line};
 ghost use Rattle.listing.specs.Listing.{names_in};
 ghost use Rattle.listing.specs.SettledRows.{shows_rows};
 ghost use Rattle.listing.specs.steps.Message.{effect_of};
@@ -14,7 +14,6 @@ use crate::input::ListInput;
 use crate::message_text::{MessageText, PacketEnding};
 use crate::places::write_added;
 use crate::settled_rows::{SettledRows, ShownRows};
-use captures::Offset;
 use message::Message;
 use output::write_text;
 use payload::{Mode, unpack};
@@ -81,16 +80,5 @@ pub(crate) fn write_refused_line<W: Write>(
         read: &unpacked,
     };
     write_text(sink, format_args!("{text}\n"))?;
-    Ok(())
-}
-
-/// Writes the line of a place where there is no complete message.
-pub(crate) fn write_offset_line<W: Write>(offset: u64, sink: &mut W) -> Result<(), WriteFault>
-    ensures text { OnOk result (Appends (W.contents sink.old) (W.contents sink.new) (offset_line offset)) }
-    ensures begun { AppendsBeginning (offset_line offset) (W.contents sink.old) (W.contents sink.new) }
-    ensures fault { IfErr result (λ fault. fault ≡ WriteFault.Write) }
-{
-    let offset = Offset(offset);
-    write_text(sink, format_args!("{offset}\n"))?;
     Ok(())
 }

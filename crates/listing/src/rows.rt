@@ -3,12 +3,11 @@
 ghost use Rattle.std.specs.Prelude.{◌≡◌, IfErr, OnOk, option_map};
 ghost use Rattle.std.specs.Io.KnownBytes.{Appends};
 ghost use Rattle.output.specs.Begun.{AppendsBeginning};
-ghost use Rattle.output.specs.Fields.{fields_line};
 ghost use Rattle.payload.specs.Reading.{reading};
-ghost use Rattle.listing.specs.Rows.{columns, effect_row, first_of, incomplete_row, last_of, refused_row};
+ghost use Rattle.listing.specs.Rows.{effect_row, first_of, last_of, refused_row};
 ghost use Rattle.listing.specs.steps.Message.{effect_of};
 
-use crate::cells::{Columns, IncompleteRow, MessageCells, TailCells};
+use crate::cells::{MessageCells, TailCells};
 use crate::endings::{read_closes, read_waits};
 use crate::entries::{Added, At};
 use crate::names::write_names;
@@ -20,16 +19,6 @@ use retire::{Event, WriteFault};
 use std::alloc::Allocator;
 use std::io::Write;
 use symbols::Symbols;
-
-/// Writes the names of the columns.
-pub(crate) fn write_columns<W: Write>(sink: &mut W) -> Result<(), WriteFault>
-    ensures text { OnOk result (Appends (W.contents sink.old) (W.contents sink.new) (fields_line columns)) }
-    ensures begun { AppendsBeginning (fields_line columns) (W.contents sink.old) (W.contents sink.new) }
-    ensures fault { IfErr result (λ fault. fault ≡ WriteFault.Write) }
-{
-    write_text(sink, Columns)?;
-    Ok(())
-}
 
 /// The place of the first of some events.
 fn first_of(added: &[Event]) -> Option<u64>
@@ -117,20 +106,5 @@ pub(crate) fn write_refused_row<W: Write>(
         read: &unpacked,
     };
     write_text(sink, format_args!("{head},,,,,,,,,,,,,,\n"))?;
-    Ok(())
-}
-
-/// Writes the row of a place at which there is no complete message.
-pub(crate) fn write_incomplete_row<W: Write>(at: At, sink: &mut W) -> Result<(), WriteFault>
-    ensures text { OnOk result (Appends (W.contents sink.old) (W.contents sink.new)
-        (incomplete_row at.number at.offset)) }
-    ensures begun { AppendsBeginning (incomplete_row at.number at.offset) (W.contents sink.old) (W.contents sink.new) }
-    ensures fault { IfErr result (λ fault. fault ≡ WriteFault.Write) }
-{
-    let row = IncompleteRow {
-        at: at.number,
-        offset: at.offset,
-    };
-    write_text(sink, row)?;
     Ok(())
 }

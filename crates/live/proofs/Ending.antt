@@ -1,11 +1,13 @@
 -- RECEIVED ends.
-use Rattle.std.proofs.Common.{◌≡◌, ℕ, ◌-◌, [], length, slice_get}
+use Rattle.std.proofs.Common.{◌≡◌, inl, inr, ℕ, ◌+◌, ◌-◌, ◌≤◌, Bool, true, false, List, [], Result, Ok, Err, length, slice_get}
 use Rattle.std.proofs.Common.{ap, ◌∙◌, arith}
-use Rattle.std.proofs.lemmas.Bool.{false_from_ne_true}
-use Rattle.live.specs.Auditing.{moves_near}
-use Rattle.live.specs.Following.{Audited, IsAudited}
+use Rattle.std.proofs.lemmas.Bool.{both_ways, false_from_ne_true}
+use Rattle.live.specs.Auditing.{LiveHolding, ReadsSent, moves_near}
+use Rattle.live.specs.Following.{Audited, IsAudited, Left}
+use Rattle.live.specs.Lines.{Line}
 use Rattle.live.specs.Live.{State, Step, and_then, finished, gives_all_up, last_lines, moves_to, read_up_to}
-use Rattle.live.specs.steps.Advancing.{NoneBefore}
+use Rattle.live.specs.declared.fault.LookFault.{LookFault}
+use Rattle.live.specs.steps.Advancing.{NoneBefore, ReadsNext}
 use Rattle.live.specs.steps.Searching.{is_one}
 use Rattle.live.proofs.Judging.{within_harts}
 use Rattle.live.proofs.ReadingOn.{up_to_end}
@@ -26,18 +28,28 @@ none_known all right read number k less =
 pub reads_all : (all : Audited) → IsAudited all → (number : ℕ) → read_up_to all.sent all.harts number ≡ length all.sent
 reads_all all right number = up_to_end all all.harts number (none_known all right (length all.sent) number)
 
--- What is left, where the front went on to near SENT's end before.
-pub ends_on : (all : Audited) (state : State)
+-- One message more is read, or SENT has ended.
+pub reads_sent : (all : Audited) → IsAudited all → (read : ℕ) (Told : List Line → Type 0) (state : State)
+    (result : Result Bool LookFault) (own : LiveHolding) (left : Left)
+    → ReadsNext all read Told state all.harts 0 result own left → ReadsSent all read Told state result own left
+reads_sent all right read Told state (Ok false) own left next = (next.0, next.2)
+reads_sent all right read Told state (Ok true) own left (inl end) = end
+reads_sent all right read Told state (Ok true) own left (inr found) =
+    absurd (both_ways _ (none_known all right (read + 1) 0 read (omega arith)) found.0)
+reads_sent all right read Told state (Err why) own left next = next
+
+-- What is left, where so many messages were read before, and the front went on near to that.
+pub ends_on : (all : Audited) (state : State) (read : ℕ) → read ≤ length all.sent
     → finished all.harts all.window all.sent state
-    ≡ and_then (moves_near all (length all.sent) state) (λ next. finished all.harts all.window all.sent next)
-ends_on all state =
+    ≡ and_then (moves_near all read state) (λ next. finished all.harts all.window all.sent next)
+ends_on all state read within =
     ap (λ step. and_then (and_then step gives) last)
-    (moves_joined all.window all.sent (length all.sent - all.window) (length all.sent) state (omega arith) (omega arith))
+    (moves_joined all.window all.sent (read - all.window) (length all.sent) state (omega (arith, within)) (omega (arith, within)))
     ∙ ap (λ step. and_then step last) (then_then near on gives)
     ∙ then_then near (λ next. and_then (on next) gives) last
   where
     near : Step
-    near = moves_near all (length all.sent) state
+    near = moves_near all read state
 
     on : State → Step
     on next = moves_to all.window all.sent (length all.sent) next

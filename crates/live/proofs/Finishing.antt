@@ -6,8 +6,8 @@ use Rattle.std.proofs.lemmas.List.{append_assoc, take-append-drop, take_all}
 use Rattle.message.specs.OfHart.{of_hart}
 use Rattle.message.specs.declared.message.Message.{Message}
 use Rattle.auditing.proofs.SentLemmas.{next_of_hart}
-use Rattle.auditing.specs.Fates.{true_ones}
 use Rattle.auditing.specs.Sent.{AreInTurn}
+use Rattle.live.specs.Compared.{known_trues}
 use Rattle.live.specs.Auditing.{LiveHolding, Stands, runs_in}
 use Rattle.live.specs.Following.{Audited, IsAudited, Left}
 use Rattle.live.specs.Lines.{Line}
@@ -21,6 +21,7 @@ use Rattle.live.specs.steps.Giving.{AreCounted, open_lines, waiting_lines}
 use Rattle.live.proofs.Reading.{counts_more, held_count}
 use Rattle.live.proofs.Standings.{no_fewer, turns_split}
 use Rattle.live.proofs.Steps.{moves_by}
+use Rattle.live.proofs.Widening.{by_is}
 
 -- Messages of SENT are of harts that are known, and none has the last number.
 counted_all : (harts : ℕ) (before messages trues : List Message) → AreInTurn harts before messages
@@ -76,16 +77,16 @@ module _ (all : Audited) (right : IsAudited all) (state : State) (own : LiveHold
 
   -- What is held is what is not given up.
   pub slots_left : own.window.slots
-      ≡ map (held (true_ones all.sent state.came)) (drop (given_up all.window state.front) all.sent)
+      ≡ map (held (known_trues state.by all.sent state.came)) (drop (given_up all.window state.front) all.sent)
   slots_left =
       stands.reads.holds.slots
-      ∙ (λ i. map (held (true_ones (whole i) state.came)) (drop (given_up (stands.reads.window i) state.front) (whole i)))
+      ∙ (λ i. map (held (known_trues (by_is all (length all.sent) state own left stands i) (whole i) state.came)) (drop (given_up (stands.reads.window i) state.front) (whole i)))
 
   pub all_counted : AreCounted (length own.runs) own.window.slots
   all_counted =
       subst (λ n. AreCounted n own.window.slots) (sym stands.counts)
       (subst (AreCounted all.harts) (sym slots_left)
-      (counted_all all.harts gone (drop (given_up all.window state.front) all.sent) (true_ones all.sent state.came)
+      (counted_all all.harts gone (drop (given_up all.window state.front) all.sent) (known_trues state.by all.sent state.came)
       (turns_split all.harts [] gone (drop (given_up all.window state.front) all.sent)
       (subst (λ l. AreInTurn all.harts [] l) (sym parts) right.in_turn)).1
       (λ hart. subst (λ l. length (of_hart hart l) < 2 ^ 64) (whole ∙ sym parts) (stands.reads.holds.few hart))))

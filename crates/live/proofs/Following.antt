@@ -50,6 +50,10 @@ module _ (all : Audited) (right : IsAudited all) (read : ℕ) (came : List Messa
   pub parts : some ++ more ≡ all.sent
   parts = take-append-drop read all.sent
 
+  -- What is left is known.
+  pub left_known : left.known ≡ true
+  left_known = ap (λ (l : Left). l.known) reads.remains
+
   -- The messages that are left.
   remaining : left.messages ≡ more ++ all.rest
   remaining = messages_of reads.remains
@@ -76,7 +80,8 @@ module _ (all : Audited) (right : IsAudited all) (read : ℕ) (came : List Messa
           let rest : after.messages ≡ drop (suc read) all.sent ++ all.rest = cc in
           let messages = rest ∙ ap (λ n. drop n all.sent ++ all.rest) (next_count read) in
           let ending = ap (λ (l : Left). l.ending) (sym is ∙ reads.remains) in
-          (found.1 ∙ ap Some first, λ i. record { messages = messages i; ending = ending i })
+          let known = ap (λ (l : Left). l.known) (sym is ∙ reads.remains) in
+          (found.1 ∙ ap Some first, λ i. record { known = known i; messages = messages i; ending = ending i })
       go (inr past) =
           let same : all.rest ≡ message ∷ after.messages =
           ap (λ l. l ++ all.rest) (sym (drop_all read all.sent past)) ∙ sym remaining ∙ messages_of is in
@@ -97,8 +102,9 @@ module _ (all : Audited) (right : IsAudited all) (read : ℕ) (came : List Messa
   -- One message more was read.
   pub reads_more : (message : Message) (after : Left) (new : Holding) → slice_get all.sent read ≡ Some message
       → after ≡ left_after all (read + 1) → Holds (some ++ message ∷ []) came front new
-      → new.window ≡ own.window → length new.harts ≡ length own.harts → Reads all (read + 1) came front new after
-  reads_more message after new at is holds same_window same_harts = record {
+      → new.window ≡ own.window → length new.harts ≡ length own.harts → new.by ≡ own.by
+      → Reads all (read + 1) came front new after
+  reads_more message after new at is holds same_window same_harts same_by = record {
     holds =
         subst (λ l. Holds l came front new)
         (sym (take_to all.sent read message at) ∙ ap (λ n. take n all.sent) (next_count read)) holds;
@@ -106,6 +112,7 @@ module _ (all : Audited) (right : IsAudited all) (read : ℕ) (came : List Messa
     remains = is;
     harts = same_harts ∙ reads.harts;
     window = same_window ∙ reads.window;
+    by = same_by ∙ reads.by;
   }
 
   -- A message that is refused is what follows SENT, or has the last number.

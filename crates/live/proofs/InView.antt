@@ -3,37 +3,43 @@ use Rattle.std.proofs.Common.{◌≡◌, ◌≢◌, ◌⊎◌, inl, inr, ℕ, ze
 use Rattle.std.proofs.Common.{not, List, [], ◌∷◌, ◌++◌, Option, Some, None, drop, length, map, set, slice_get, take}
 use Rattle.std.proofs.Common.{refl, sym, ap, subst, ◌∙◌, arith}
 use Rattle.std.specs.Prelude.{◌&&◌, max, option_map}
-use Rattle.std.specs.Str.{bytes_eq}
-use Rattle.std.proofs.lemmas.Bool.{cases_eq, cases_lt, le-ltb, lt-ltb}
+use Rattle.std.proofs.lemmas.Bool.{cases_eq, cases_lt, false_from_ne_true, le-ltb, lt-ltb}
 use Rattle.std.proofs.lemmas.List.{append_assoc, length-set}
 use Rattle.std.proofs.lemmas.List.Elements.{filter-append}
 use Rattle.std.proofs.lemmas.Option.{slice_get-map}
+use Rattle.payload.specs.Same.{same}
 use Rattle.message.proofs.AcceptedLemmas.{slice_get-set}
 use Rattle.message.proofs.Elements.{slice_get-some}
 use Rattle.message.specs.OfHart.{of_hart}
 use Rattle.message.specs.declared.message.Message.{Message}
 use Rattle.auditing.proofs.Appending.{true_ones-same}
 use Rattle.auditing.proofs.FindingLemmas.{finding_is, greatest_above, past-other, past-true}
+use Rattle.auditing.proofs.KnownLemmas.{known-more, known-turn}
 use Rattle.auditing.proofs.SentLemmas.{next_of_hart}
 use Rattle.auditing.proofs.TakingLemmas.{chosen}
 use Rattle.auditing.specs.Audits.{capped, number_after}
 use Rattle.auditing.specs.Fates.{fate_of, has_number, is_numbered, is_same, is_true, true_ones}
-use Rattle.auditing.specs.Findings.{finding_of, greatest_number}
+use Rattle.auditing.specs.Findings.{greatest_number}
+use Rattle.auditing.specs.Known.{known_all, known_one}
 use Rattle.auditing.specs.Sent.{AreInTurn}
+use Rattle.auditing.specs.SentPayload.{payload_sent}
 use Rattle.auditing.specs.declared.fate.Fate.TheVariants as fate
 use Rattle.auditing.specs.declared.finding.Finding.{Finding}
 use Rattle.auditing.specs.steps.Taking.{finding_at}
+use Rattle.live.specs.Compared.{known_finding, known_trues}
 use Rattle.live.specs.Holding.{Holding}
 use Rattle.live.specs.Holds.{AreNumbers, AreRead, Holds, came_by, judged_as, judged_by}
 use Rattle.live.specs.Live.{held}
 use Rattle.live.specs.View.{given_up, is_below, standing_from, standing_of, up_to}
 use Rattle.live.specs.declared.numbers.Numbers.{Numbers}
+use Rattle.live.specs.declared.held.SentMessage.{SentMessage}
 use Rattle.live.specs.declared.standing.Standing.TheVariants as standing
 use Rattle.live.specs.steps.Judging.{found_by, harts_new, mark_at, mark_by, slots_came, taken_by}
+use Rattle.live.specs.steps.Searching.{is_at, is_slot}
 use Rattle.live.proofs.Judging.{any_at, flags_stay, greater_past, marked, only_one, same_numbered, slice_get-drop, stands_where}
 use Rattle.live.proofs.Judging.{within_harts}
 use Rattle.live.proofs.Reading.{counts_more}
-use Rattle.live.proofs.Standings.{is_one, no_fewer, numbered_is}
+use Rattle.live.proofs.Standings.{is_one, no_fewer, none_again, numbered_is, one_more}
 use Rattle.live.proofs.Views.{by_tests, turn}
 
 -- A message that was read has a number below how many of its hart were read.
@@ -75,13 +81,43 @@ one_less number past = go (cases_lt (number + 1) past)
     go (inl low) = lt-ltb (number + 1) past low ∙ sym (lt-ltb number (past - 1) (omega (arith, low)))
     go (inr high) = le-ltb (number + 1) past high ∙ sym (le-ltb number (past - 1) (omega (arith, high)))
 
+-- The payload of the message at a place, which has the number.
+pub payload_at : (harts : ℕ) (before messages : List Message) → AreInTurn harts before messages → (hart number k : ℕ)
+    (message : Message) → slice_get messages k ≡ Some message → is_numbered hart number message ≡ true
+    → payload_sent messages hart number ≡ Some message.payload
+payload_at harts before [] turn hart number k message is own = cc
+payload_at harts before (first ∷ messages) turn hart number zero message is own =
+    let same : first ≡ message = cc in
+    ap (λ b. cond b (Some first.payload) (payload_sent messages hart number)) (ap (is_numbered hart number) same ∙ own)
+    ∙ ap (λ (m : Message). Some m.payload) same
+payload_at harts before (first ∷ messages) turn hart number (suc k) message is own =
+    ap (λ b. cond b (Some first.payload) (payload_sent messages hart number))
+    (false_from_ne_true (is_numbered hart number first) (λ here.
+    none_again harts (before ++ first ∷ []) messages turn.1 hart number
+    (let more = one_more harts before first hart number (next_of_hart harts before first turn.0).1 here in
+    omega (arith, more)) k (ap (is_one hart number) is ∙ own)))
+    ∙ payload_at harts (before ++ first ∷ []) messages turn.1 hart number k message is own
+
 module _ (sent came : List Message) (front : ℕ) (own : Holding) (holds : Holds sent came front own) (message : Message)
     (place : ℕ) (stands : standing_of own.window sent front message.hart message.number ≡ standing.At place) where
   abbrev trues : List Message
-  trues = true_ones sent came
+  trues = known_trues own.by sent came
 
   abbrev more : List Message
   more = came ++ message ∷ []
+
+  -- Messages as they are known.
+  abbrev known_sent : List Message
+  known_sent = known_all own.by sent
+
+  abbrev known_came : List Message
+  known_came = known_all own.by came
+
+  abbrev own_known : Message
+  own_known = known_one own.by message
+
+  more_known : known_all own.by more ≡ known_came ++ own_known ∷ []
+  more_known = known-more own.by came message
 
   abbrev gone : ℕ
   gone = given_up own.window front
@@ -90,7 +126,7 @@ module _ (sent came : List Message) (front : ℕ) (own : Holding) (holds : Holds
   later = drop gone sent
 
   -- The message of SENT that is there.
-  found : (one : Message) × (slice_get later place ≡ Some one) × (is_numbered message.hart message.number one ≡ true)
+  pub found : (one : Message) × (slice_get later place ≡ Some one) × (is_numbered message.hart message.number one ≡ true)
   found =
       by_low (is_below own.window sent front message.hart message.number)
       (sym (by_tests sent came front own holds message.hart message.number
@@ -119,23 +155,37 @@ module _ (sent came : List Message) (front : ℕ) (own : Holding) (holds : Holds
   its : (one.hart ≡ message.hart) × (one.number ≡ message.number)
   its = numbered_is message.hart message.number one found.2
 
-  in_sent : slice_get sent (gone + place) ≡ Some one
+  pub in_sent : slice_get sent (gone + place) ≡ Some one
   in_sent = sym (slice_get-drop sent gone place) ∙ found.1
 
-  slot_is : slice_get own.slots place ≡ Some (held trues one)
+  pub slot_is : slice_get own.slots place ≡ Some (held trues one)
   slot_is =
       ap (λ l. slice_get l place) holds.slots
       ∙ slice_get-map (held trues) later place
       ∙ ap (option_map (held trues)) found.1
 
-  known : has_number sent message.hart message.number ≡ true
-  known = any_at (is_numbered message.hart message.number) sent (gone + place) one in_sent found.2
+  in_known : slice_get known_sent (gone + place) ≡ Some (known_one own.by one)
+  in_known = slice_get-map (known_one own.by) sent (gone + place) ∙ ap (option_map (known_one own.by)) in_sent
 
-  same : is_true sent message ≡ bytes_eq message.payload one.payload
-  same =
-      only_one (length own.harts) [] sent holds.in_turn (is_same message) message.hart message.number (same_numbered message)
-      (gone + place) one in_sent found.2
-      ∙ ap (λ b. b && bytes_eq message.payload one.payload) found.2
+  -- The payload that SENT has.
+  pub payload_is : payload_sent sent message.hart message.number ≡ Some one.payload
+  payload_is =
+      payload_at (length own.harts) [] sent holds.in_turn message.hart message.number (gone + place) one in_sent found.2
+
+  known : has_number known_sent message.hart message.number ≡ true
+  known =
+      any_at (is_numbered message.hart message.number) known_sent (gone + place) (known_one own.by one) in_known found.2
+
+  -- The payload that came is the one that was sent.
+  abbrev equal : Bool
+  equal = same own.by one.payload message.payload
+
+  same_is : is_true known_sent own_known ≡ equal
+  same_is =
+      only_one (length own.harts) [] known_sent (known-turn own.by (length own.harts) [] sent holds.in_turn)
+      (is_same own_known) message.hart message.number (same_numbered own_known) (gone + place) (known_one own.by one)
+      in_known found.2
+      ∙ ap (λ b. b && equal) found.2
 
   again : has_number trues message.hart message.number ≡ has_number trues one.hart one.number
   again =
@@ -159,27 +209,27 @@ module _ (sent came : List Message) (front : ℕ) (own : Holding) (holds : Holds
   past_is : past ≡ number_after (greatest_number trues message.hart)
   past_is = (holds.harts message.hart numbers.0 numbers.1).past
 
-  fate_is : fate_of sent came message
-      ≡ chosen true (bytes_eq message.payload one.payload) (has_number trues one.hart one.number)
+  fate_is : fate_of known_sent known_came own_known
+      ≡ chosen true equal (has_number trues one.hart one.number)
       (ltb message.number (past - 1))
-  fate_is = λ i. chosen (known i) (same i) (again i)
+  fate_is = λ i. chosen (known i) (same_is i) (again i)
       ((greater_past trues message.hart message.number ∙ ap (ltb (message.number + 1)) (sym past_is)
       ∙ one_less message.number past) i)
 
   -- What is found of the message.
   pub finds : found_by (mark_at own place message.payload) (slice_get own.harts message.hart) message.number
-      ≡ finding_of sent came message
+      ≡ known_finding own.by sent came message
   finds =
-      ap (λ o. found_by (mark_by o message.payload) (slice_get own.harts message.hart) message.number) slot_is
-      ∙ ap (λ o. found_by (mark_by (Some (held trues one)) message.payload) o message.number) numbers.1
-      ∙ found_cases (bytes_eq message.payload one.payload) (has_number trues one.hart one.number) numbers.0 message.number
-      ∙ sym (finding_is sent came message
-      (chosen true (bytes_eq message.payload one.payload) (has_number trues one.hart one.number)
+      ap (λ o. found_by (mark_by own.by o message.payload) (slice_get own.harts message.hart) message.number) slot_is
+      ∙ ap (λ o. found_by (mark_by own.by (Some (held trues one)) message.payload) o message.number) numbers.1
+      ∙ found_cases equal (has_number trues one.hart one.number) numbers.0 message.number
+      ∙ sym (finding_is known_sent known_came own_known
+      (chosen true equal (has_number trues one.hart one.number)
       (ltb message.number (past - 1))) past fate_is past_is)
 
   -- What is held stays, where the flags and the greatest numbers do.
-  stays : map (held (true_ones sent more)) later ≡ map (held trues) later
-      → ((hart : ℕ) → number_after (greatest_number (true_ones sent more) hart) ≡ number_after (greatest_number trues hart))
+  stays : map (held (known_trues own.by sent more)) later ≡ map (held trues) later
+      → ((hart : ℕ) → number_after (greatest_number (known_trues own.by sent more) hart) ≡ number_after (greatest_number trues hart))
       → Holds sent more front own
   stays flags pasts = record {
     slots = holds.slots ∙ sym flags;
@@ -197,46 +247,62 @@ module _ (sent came : List Message) (front : ℕ) (own : Holding) (holds : Holds
   }
 
   -- A message that is not true changes nothing.
-  untrue : bytes_eq message.payload one.payload ≡ false → Holds sent more front own
+  untrue : equal ≡ false → Holds sent more front own
   untrue other =
-      let trues_same = true_ones-same sent came message (same ∙ other) in
+      let trues_same =
+      ap (true_ones known_sent) more_known ∙ true_ones-same known_sent known_came own_known (same_is ∙ other) in
       stays (ap (λ t. map (held t) later) trues_same)
       (λ hart. ap (λ t. number_after (greatest_number t hart)) trues_same)
 
   -- The true ones, with one that is true.
-  true_more : bytes_eq message.payload one.payload ≡ true → true_ones sent more ≡ trues ++ message ∷ []
+  true_more : equal ≡ true → known_trues own.by sent more ≡ trues ++ own_known ∷ []
   true_more is =
-      filter-append (is_true sent) came (message ∷ [])
-      ∙ ap (λ t. trues ++ cond t (message ∷ []) []) (same ∙ is)
+      ap (true_ones known_sent) more_known
+      ∙ filter-append (is_true known_sent) known_came (own_known ∷ [])
+      ∙ ap (λ t. trues ++ cond t (own_known ∷ []) []) (same_is ∙ is)
+
+  -- The number after the greatest of another hart stays.
+  past_beside : (hart : ℕ) → message.hart ≢ hart
+      → greatest_number (known_trues own.by sent more) hart ≡ greatest_number trues hart
+  past_beside hart other =
+      ap (λ l. greatest_number (true_ones known_sent l) hart) more_known
+      ∙ past-other known_sent known_came own_known hart other
+
+  -- That of its hart is greater than its own.
+  past_own : equal ≡ true → number_after (greatest_number (known_trues own.by sent more) message.hart)
+      ≡ max (number_after (greatest_number trues message.hart)) (message.number + 1)
+  past_own is =
+      ap (λ l. number_after (greatest_number (true_ones known_sent l) message.hart)) more_known
+      ∙ past-true known_sent known_came own_known (same_is ∙ is)
 
   -- The number after the greatest, with one that is true and has a number no greater.
-  past_stays : bytes_eq message.payload one.payload ≡ true → message.number + 1 ≤ past → (hart : ℕ)
-      → number_after (greatest_number (true_ones sent more) hart) ≡ number_after (greatest_number trues hart)
+  past_stays : equal ≡ true → message.number + 1 ≤ past → (hart : ℕ)
+      → number_after (greatest_number (known_trues own.by sent more) hart) ≡ number_after (greatest_number trues hart)
   past_stays is below hart = go (cases_eq message.hart hart)
     where
       go : (message.hart ≡ hart) ⊎ (message.hart ≡ hart → ⊥)
-          → number_after (greatest_number (true_ones sent more) hart) ≡ number_after (greatest_number trues hart)
-      go (inr other) = ap number_after (past-other sent came message hart other)
+          → number_after (greatest_number (known_trues own.by sent more) hart) ≡ number_after (greatest_number trues hart)
+      go (inr other) = ap number_after (past_beside hart other)
       go (inl equal) =
-          subst (λ h. number_after (greatest_number (true_ones sent more) h) ≡ number_after (greatest_number trues h)) equal
-          (past-true sent came message (same ∙ is)
+          subst (λ h. number_after (greatest_number (known_trues own.by sent more) h) ≡ number_after (greatest_number trues h)) equal
+          (past_own is
           ∙ (let now = past_is in omega (arith, now, below)))
 
   -- A repeat changes nothing.
-  repeats : bytes_eq message.payload one.payload ≡ true → has_number trues one.hart one.number ≡ true
+  repeats : equal ≡ true → has_number trues one.hart one.number ≡ true
       → Holds sent more front own
   repeats is has =
-      stays (ap (λ t. map (held t) later) (true_more is) ∙ flags_stay trues message (again ∙ has) later)
+      stays (ap (λ t. map (held t) later) (true_more is) ∙ flags_stay trues own_known (again ∙ has) later)
       (past_stays is
       (let above = greatest_above message.hart message.number trues (again ∙ has) in
       let now = past_is in omega (arith, above, now)))
 
   -- A new message sets its flag.
-  slots_new : bytes_eq message.payload one.payload ≡ true
-      → set own.slots place (record { message = one; came = true }) ≡ map (held (true_ones sent more)) later
+  slots_new : equal ≡ true
+      → set own.slots place (record { message = one; came = true }) ≡ map (held (known_trues own.by sent more)) later
   slots_new is =
       ap (λ l. set l place (record { message = one; came = true })) holds.slots
-      ∙ marked trues message (length own.harts) (take gone sent) later
+      ∙ marked trues own_known (length own.harts) (take gone sent) later
       (turn sent came front own holds message.hart message.number) place one found.1 found.2
       ∙ ap (λ t. map (held t) later) (sym (true_more is))
 
@@ -244,19 +310,19 @@ module _ (sent came : List Message) (front : ℕ) (own : Holding) (holds : Holds
   greater = record numbers.0 { past = max past (capped (message.number + 1)) }
 
   -- The numbers of the harts, with a new message.
-  numbers_new : bytes_eq message.payload one.payload ≡ true → (hart : ℕ) (other : Numbers)
+  numbers_new : equal ≡ true → (hart : ℕ) (other : Numbers)
       → slice_get (set own.harts message.hart greater) hart ≡ Some other
-      → AreNumbers (take gone sent) sent (true_ones sent more) hart other
+      → AreNumbers (take gone sent) sent (known_trues own.by sent more) hart other
   numbers_new is hart other at = go (slice_get-set own.harts message.hart greater hart other at)
     where
       go : ((message.hart ≡ hart) × (other ≡ greater)) ⊎ ((message.hart ≢ hart) × (slice_get own.harts hart ≡ Some other))
-          → AreNumbers (take gone sent) sent (true_ones sent more) hart other
+          → AreNumbers (take gone sent) sent (known_trues own.by sent more) hart other
       go (inr both) = record {
         gone = (holds.harts hart other both.1).gone;
         read = (holds.harts hart other both.1).read;
         past =
             (holds.harts hart other both.1).past
-            ∙ sym (ap number_after (past-other sent came message hart both.0));
+            ∙ sym (ap number_after (past_beside hart both.0));
       }
       go (inl both) = record {
         gone =
@@ -275,11 +341,11 @@ module _ (sent came : List Message) (front : ℕ) (own : Holding) (holds : Holds
             let is_max : max past (capped (message.number + 1))
             ≡ max (number_after (greatest_number trues message.hart)) (message.number + 1) =
             omega (arith, now, few, read) in is_max)
-            ∙ sym (past-true sent came message (same ∙ is))
-            ∙ ap (λ h. number_after (greatest_number (true_ones sent more) h)) both.0;
+            ∙ sym (past_own is)
+            ∙ ap (λ h. number_after (greatest_number (known_trues own.by sent more) h)) both.0;
       }
 
-  news : bytes_eq message.payload one.payload ≡ true
+  news : equal ≡ true
       → Holds sent more front (record own {
         slots = set own.slots place (record { message = one; came = true });
         harts = set own.harts message.hart greater;
@@ -299,15 +365,15 @@ module _ (sent came : List Message) (front : ℕ) (own : Holding) (holds : Holds
   pub takes : Holds sent more front
       (taken_by own place message.hart message.number (mark_at own place message.payload))
   takes =
-      subst (λ o. Holds sent more front (taken_by own place message.hart message.number (mark_by o message.payload)))
+      subst (λ o. Holds sent more front (taken_by own place message.hart message.number (mark_by own.by o message.payload)))
       (sym slot_is)
-      (go (bytes_eq message.payload one.payload) (has_number trues one.hart one.number) refl refl)
+      (go (equal) (has_number trues one.hart one.number) refl refl)
     where
-      go : (equal before : Bool) → bytes_eq message.payload one.payload ≡ equal
+      go : (alike before : Bool) → equal ≡ alike
           → has_number trues one.hart one.number ≡ before
           → Holds sent more front
           (taken_by own place message.hart message.number
-          (cond (not equal) fate.Changed (cond before fate.Repeat fate.InOrder)))
+          (cond (not alike) fate.Changed (cond before fate.Repeat fate.InOrder)))
       go false before is has = untrue is
       go true true is has = repeats is has
       go true false is has =
@@ -324,14 +390,14 @@ module _ (sent came : List Message) (front : ℕ) (own : Holding) (holds : Holds
   pub judges : (distance : ℕ) (its : Finding) → distance ≡ place + 1 - own.near
       → its ≡ found_by (mark_at own place message.payload) (slice_get own.harts message.hart) message.number
       → judged_as distance its
-      ≡ judged_by own.window sent came front message
+      ≡ judged_by own.by own.window sent came front message
       (standing_of own.window sent front message.hart message.number)
   judges distance its far is =
       (λ i. judged_as
       ((let near = holds.near in
       let same : distance ≡ up_to own.window front place - front = omega (arith, near, far) in same) i)
       ((is ∙ finds) i))
-      ∙ ap (judged_by own.window sent came front message) (sym stands)
+      ∙ ap (judged_by own.by own.window sent came front message) (sym stands)
 
   -- What is held then.
   pub takes_it : (new : Holding)
@@ -340,3 +406,38 @@ module _ (sent came : List Message) (front : ℕ) (own : Holding) (holds : Holds
   takes_it new is =
       subst (λ its. Holds sent (came_by came message its) front new) (sym stands)
       (subst (Holds sent more front) (sym is) takes)
+
+-- The payload of a message that is held.
+pub held_payload : (sent came : List Message) (front : ℕ) (own : Holding) → Holds sent came front own
+    → (hart number place : ℕ) (slot : SentMessage) → slice_get own.slots place ≡ Some slot
+    → is_at own.slots hart number place ≡ true → Some slot.message.payload ≡ payload_sent sent hart number
+held_payload sent came front own holds hart number place slot is found =
+    go (slice_get (drop gone sent) place) refl
+    (sym (slice_get-map (held (known_trues own.by sent came)) (drop gone sent) place)
+    ∙ ap (λ l. slice_get l place) (sym holds.slots) ∙ is)
+  where
+    gone : ℕ
+    gone = given_up own.window front
+
+    own_number : is_numbered hart number slot.message ≡ true
+    own_number = sym (ap (is_slot hart number) is) ∙ found
+
+    go : (one : Option Message) → slice_get (drop gone sent) place ≡ one
+        → option_map (held (known_trues own.by sent came)) one ≡ Some slot
+        → Some slot.message.payload ≡ payload_sent sent hart number
+    go None at same = cc
+    go (Some one) at same =
+        let its : held (known_trues own.by sent came) one ≡ slot = cc in
+        let message = ap (λ (s : SentMessage). s.message) its in
+        sym (payload_at (length own.harts) [] sent holds.in_turn hart number (gone + place) one
+        (sym (slice_get-drop sent gone place) ∙ at) (ap (is_numbered hart number) message ∙ own_number)
+        ∙ ap (λ (m : Message). Some m.payload) message)
+
+-- Where a number is in view, some message that is held has it.
+pub held_there : (sent came : List Message) (front : ℕ) (own : Holding) → Holds sent came front own
+    → (hart number place : ℕ) → standing_of own.window sent front hart number ≡ standing.At place
+    → is_at own.slots hart number place ≡ true
+held_there sent came front own holds hart number place at =
+    let message : Message = record { hart = hart; number = number; payload = [] } in
+    ap (is_slot hart number) (slot_is sent came front own holds message place at)
+    ∙ (found sent came front own holds message place at).2

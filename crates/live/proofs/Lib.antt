@@ -1,4 +1,7 @@
 pub mod Standings
+pub mod Known
+pub mod Counting
+pub mod AddingUp
 pub mod Searched
 pub mod Views
 pub mod Reading
@@ -18,3 +21,14 @@ pub mod Meets
 pub mod Telling
 pub mod Finishing
 pub mod Starting
+pub mod ReceivedBytes
+pub mod ReceivedRows
+pub mod ReceivedTaken
+pub mod ReceivedBuffer
+pub mod ReceivedStart
+pub mod ReceivedRuns
+pub mod ReceivedSteps
+pub mod ReceivedWhole
+pub mod ReceivedSeen
+pub mod ReceivedStands
+pub mod ReceivedNext

@@ -4,10 +4,10 @@ use Rattle.std.proofs.Common.{Option, Some, None, length, slice_get, take, refl,
 use Rattle.std.specs.Prelude.{option_map}
 use Rattle.std.proofs.lemmas.Bool.{eqb-true}
 use Rattle.std.proofs.lemmas.List.{append-nil, length-take}
+use Rattle.payload.specs.declared.by.By.{By}
 use Rattle.message.specs.declared.message.Message.{Message}
-use Rattle.auditing.specs.Fates.{true_ones}
-use Rattle.auditing.specs.Findings.{finding_of}
 use Rattle.auditing.specs.declared.finding.Finding.{Finding}
+use Rattle.live.specs.Compared.{changed_from, known_finding, known_trues}
 use Rattle.live.specs.Auditing.{GoesTo, LiveHolding, Stands, runs_in, waiting_in}
 use Rattle.live.specs.Following.{Audited, IsAudited, Left}
 use Rattle.live.specs.Holding.{Holding}
@@ -26,7 +26,7 @@ use Rattle.live.proofs.Judges.{found_at}
 use Rattle.live.proofs.Judging.{within_harts}
 use Rattle.live.proofs.Settling.{stands_settles}
 use Rattle.live.proofs.Steps.{goes_as, met_front, same_step}
-use Rattle.live.proofs.Widening.{front_held, front_stands, in_view_read, read_number, wide_finding, wide_last}
+use Rattle.live.proofs.Widening.{by_is, front_held, front_stands, in_view_read, read_number, stands_reads, wide_finding, wide_last}
 
 -- What waits is not for this number, where nothing is taken.
 none_met : (sent : List Message) (state : State) (message : Message) (one : Option Arrived)
@@ -37,7 +37,7 @@ none_met sent state message (Some one) is = go (eqb one.message.number message.n
   where
     go : (same : Bool) → cond same (Some one) None ≡ None
         → (same ≡ false) × (cond same
-        (finds (settles state message.hart) one (finding_of sent state.came one.message)) (stays state) ≡ stays state)
+        (finds sent (settles state message.hart) one (known_finding state.by sent state.came one.message)) (stays state) ≡ stays state)
     go true never = cc
     go false never = (refl, refl)
 
@@ -63,7 +63,7 @@ module _ (all : Audited) (right : IsAudited all) (read : ℕ) (state : State) (o
   abbrev waits_here : Option Arrived
   waits_here = waiting_in own.waiting message.hart
 
-  at_slot : slot ≡ Some (held (true_ones all.sent state.came) message)
+  at_slot : slot ≡ Some (held (known_trues state.by all.sent state.came) message)
   at_slot = front_held all right read state own left stands message before is
 
   same_waiting : waits_here ≡ state.waiting message.hart
@@ -102,58 +102,53 @@ module _ (all : Audited) (right : IsAudited all) (read : ℕ) (state : State) (o
     -- It is decided.
     pub meets_one : (new : Holding) (finding : Finding) (ahead : ℕ)
         → judged.Found finding ahead
-        ≡ judged_by own.window.window (take read all.sent) state.came state.front one.message
+        ≡ judged_by own.window.by own.window.window (take read all.sent) state.came state.front one.message
         (standing_of own.window.window (take read all.sent) state.front one.message.hart one.message.number)
         → Holds (take read all.sent) (came_by state.came one.message
         (standing_of own.window.window (take read all.sent) state.front one.message.hart one.message.number)) state.front new
-        → new.window ≡ own.window.window → length new.harts ≡ length own.window.harts
-        → (Told : List Line → Type 0) → Told (Decided one finding ∷ [])
+        → new.window ≡ own.window.window → length new.harts ≡ length own.window.harts → new.by ≡ own.window.by
+        → (Told : List Line → Type 0) → Told (Decided one finding (changed_from all.sent one.message finding) ∷ [])
         → GoesTo all read Told (met all.sent state message (state.waiting message.hart))
         (record own { window = new; waiting = unmet own.waiting slot }) left
-    meets_one new finding ahead at holds window harts Told told =
+    meets_one new finding ahead at holds window harts by Told told =
         subst (λ w. GoesTo all read Told (met all.sent state message (state.waiting message.hart))
         (record own { window = new; waiting = w }) left)
         (sym (ap (unmet own.waiting) at_slot ∙ ap (λ b. cond b (without own.waiting message.hart) own.waiting) taken.0))
         (subst (λ step. GoesTo all read Told step (record own { window = new; waiting = without own.waiting message.hart }) left)
         (sym step) (record { stands = after; told = told }))
       where
-        wide : finding_of all.sent state.came one.message ≡ finding
+        wide : known_finding state.by all.sent state.came one.message ≡ finding
         wide =
-            wide_finding all right read state.came state.front own.window left stands.reads one.message
+            ap (λ h. known_finding h all.sent state.came one.message) (sym (by_is all read state own left stands))
+            ∙ wide_finding all right read state.came state.front own.window left stands.reads one.message
             (in_view_read own.window.window (take read all.sent) (length own.window.harts) stands.reads.holds.in_turn
             state.front one.message.hart one.message.number own.window.near met_stands)
-            ∙ sym (found_at own.window.window (take read all.sent) state.came state.front one.message
+            ∙ sym (found_at own.window.by own.window.window (take read all.sent) state.came state.front one.message
             (standing_of own.window.window (take read all.sent) state.front one.message.hart one.message.number) finding ahead
             at).2
 
-        step : met all.sent state message (state.waiting message.hart) ≡ finds (settles state message.hart) one finding
+        step : met all.sent state message (state.waiting message.hart) ≡ finds all.sent (settles state message.hart) one finding
         step =
             ap (met all.sent state message) (sym same_waiting ∙ taken.1)
-            ∙ ap (λ b. cond b (finds (settles state message.hart) one (finding_of all.sent state.came one.message)) (stays state))
+            ∙ ap (λ b. cond b (finds all.sent (settles state message.hart) one (known_finding state.by all.sent state.came one.message))
+            (stays state))
             (sym (ap (has_this message.number) taken.1) ∙ taken.0)
-            ∙ ap (finds (settles state message.hart) one) wide
+            ∙ ap (finds all.sent (settles state message.hart) one) wide
 
-        emptied : Stands all read (settles state message.hart) (record own { waiting = without own.waiting message.hart }) left
-        emptied = stands_settles all read state own left stands message.hart
-
-        after : Stands all read (finds (settles state message.hart) one finding).state
+        after : Stands all read (finds all.sent (settles state message.hart) one finding).state
             (record own { window = new; waiting = without own.waiting message.hart }) left
-        after = record {
-          reads = record {
-            holds = subst (λ s. Holds (take read all.sent) (came_by state.came one.message s) state.front new) met_stands holds;
-            within = stands.reads.within;
-            remains = stands.reads.remains;
-            harts = harts ∙ stands.reads.harts;
-            window = window ∙ stands.reads.window;
-          };
-          waiting = emptied.waiting;
-          runs = emptied.runs;
-          waits = emptied.waits;
-          counts = emptied.counts;
-          own_hart = emptied.own_hart;
-          some = emptied.some;
-          few = emptied.few;
-        }
+        after =
+            stands_reads all read (settles state message.hart)
+            (record own { waiting = without own.waiting message.hart }) left
+            (stands_settles all read state own left stands message.hart) read (state.came ++ one.message ∷ []) state.front
+            new left (record {
+              holds = subst (λ s. Holds (take read all.sent) (came_by state.came one.message s) state.front new) met_stands holds;
+              within = stands.reads.within;
+              remains = stands.reads.remains;
+              harts = harts ∙ stands.reads.harts;
+              window = window ∙ stands.reads.window;
+              by = by ∙ stands.reads.by;
+            })
 
 -- What is met does not depend on the front.
 met_moved : (sent : List Message) (state : State) (front : ℕ) (message : Message) (one : Option Arrived)
@@ -163,28 +158,28 @@ met_moved sent state front message None = refl
 met_moved sent state front message (Some one) = go (eqb one.message.number message.number)
   where
     go : (same : Bool)
-        → cond same (finds (settles (record state { front = front }) message.hart) one (finding_of sent state.came one.message))
+        → cond same (finds sent (settles (record state { front = front }) message.hart) one (known_finding state.by sent state.came one.message))
         (stays (record state { front = front }))
         ≡ record {
-          state = record (cond same (finds (settles state message.hart) one (finding_of sent state.came one.message))
+          state = record (cond same (finds sent (settles state message.hart) one (known_finding state.by sent state.came one.message))
               (stays state)).state { front = front };
-          lines = (cond same (finds (settles state message.hart) one (finding_of sent state.came one.message))
+          lines = (cond same (finds sent (settles state message.hart) one (known_finding state.by sent state.came one.message))
               (stays state)).lines;
         }
     go true = refl
     go false = refl
 
 -- The last message that is held is one of SENT.
-last_is : (sent came : List Message) (count : ℕ) (slot : SentMessage) → last_held came sent count ≡ Some slot
+last_is : (how : By) (sent came : List Message) (count : ℕ) (slot : SentMessage) → last_held how came sent count ≡ Some slot
     → (k : ℕ) × (message : Message) × (count ≡ suc k) × (slice_get sent k ≡ Some message) × (slot.message ≡ message)
-last_is sent came zero slot is = cc
-last_is sent came (suc k) slot is = go (slice_get sent k) refl is
+last_is how sent came zero slot is = cc
+last_is how sent came (suc k) slot is = go (slice_get sent k) refl is
   where
-    go : (own : Option Message) → slice_get sent k ≡ own → option_map (held (true_ones sent came)) own ≡ Some slot
+    go : (own : Option Message) → slice_get sent k ≡ own → option_map (held (known_trues how sent came)) own ≡ Some slot
         → (j : ℕ) × (message : Message) × (suc k ≡ suc j) × (slice_get sent j ≡ Some message) × (slot.message ≡ message)
     go None at never = cc
     go (Some message) at same =
-        let its : held (true_ones sent came) message ≡ slot = cc in
+        let its : held (known_trues how sent came) message ≡ slot = cc in
         (k, message, refl, at, ap (λ (s : SentMessage). s.message) (sym its))
 
 module _ (all : Audited) (right : IsAudited all) (read : ℕ) (state : State) (left : Left) (message : Message)
@@ -216,35 +211,30 @@ module _ (all : Audited) (right : IsAudited all) (read : ℕ) (state : State) (l
 
   module _ (new : Holding) (holds : Holds (take read all.sent) now.came (now.front + 1) new)
       (window : new.window ≡ own.window.window) (harts : length new.harts ≡ length own.window.harts)
-      (given : Option SentMessage)
-      (given_is : given ≡ last_held now.came (take read all.sent) (given_up own.window.window (now.front + 1))) where
+      (by : new.by ≡ own.window.by) (given : Option SentMessage)
+      (given_is : given ≡ last_held own.window.by now.came (take read all.sent) (given_up own.window.window (now.front + 1))) where
     -- The front is one further.
     moved_stands : Stands all read moved (record own { window = new }) left
-    moved_stands = record {
-      reads = record {
-        holds = subst (λ n. Holds (take read all.sent) now.came (n + 1) new) front_is holds;
-        within = goes.stands.reads.within;
-        remains = goes.stands.reads.remains;
-        harts = harts ∙ goes.stands.reads.harts;
-        window = window ∙ goes.stands.reads.window;
-      };
-      waiting = goes.stands.waiting;
-      runs = goes.stands.runs;
-      waits = goes.stands.waits;
-      counts = goes.stands.counts;
-      own_hart = goes.stands.own_hart;
-      some = goes.stands.some;
-      few = goes.stands.few;
-    }
+    moved_stands =
+        stands_reads all read now own left goes.stands read now.came (state.front + 1) new left (record {
+          holds = subst (λ n. Holds (take read all.sent) now.came (n + 1) new) front_is holds;
+          within = goes.stands.reads.within;
+          remains = goes.stands.reads.remains;
+          harts = harts ∙ goes.stands.reads.harts;
+          window = window ∙ goes.stands.reads.window;
+          by = by ∙ goes.stands.reads.by;
+        })
 
     -- What is given up, by all of SENT.
-    wide_given : given ≡ last_held moved.came all.sent (given_up all.window moved.front)
+    wide_given : given ≡ last_held moved.by moved.came all.sent (given_up all.window moved.front)
     wide_given =
         given_is
         ∙ sym (wide_last all right read now.came now.front own.window left goes.stands.reads
         (given_up own.window.window (now.front + 1)) (let front = front_is in omega (arith, front, before)))
-        ∙ ap (λ n. last_held now.came all.sent (n - (own.window.window + 1))) (ap (λ n. n + 1) front_is)
-        ∙ ap (λ w. last_held now.came all.sent (state.front + 1 - (w + 1))) goes.stands.reads.window
+        ∙ ap (λ n. last_held own.window.by now.came all.sent (n - (own.window.window + 1))) (ap (λ n. n + 1) front_is)
+        ∙ ap (λ w. last_held own.window.by now.came all.sent (state.front + 1 - (w + 1))) goes.stands.reads.window
+        ∙ ap (λ h. last_held h now.came all.sent (given_up all.window (state.front + 1)))
+        (by_is all read now own left goes.stands)
 
     -- None is given up.
     pub pass_none : given ≡ None
@@ -261,7 +251,7 @@ module _ (all : Audited) (right : IsAudited all) (read : ℕ) (state : State) (l
     -- One is given up: it is of a hart that is known, and its number is not the last.
     pub pass_counted : (slot : SentMessage) → given ≡ Some slot → IsCounted (length own.runs) slot
     pass_counted slot some =
-        let its = last_is all.sent moved.came (given_up all.window moved.front) slot (sym wide_given ∙ some) in
+        let its = last_is moved.by all.sent moved.came (given_up all.window moved.front) slot (sym wide_given ∙ some) in
         let known = within_harts all.harts [] all.sent right.in_turn its.0 its.1 its.3 in
         let low = read_number all.harts all.sent right.in_turn read its.0 (let at = its.2 in omega (arith, at, before)) its.1
         its.3 in
@@ -287,6 +277,7 @@ module _ (all : Audited) (right : IsAudited all) (read : ℕ) (state : State) (l
             reads = moved_stands.reads;
             waiting = moved_stands.waiting;
             runs = same;
+            by = moved_stands.by;
             waits = moved_stands.waits;
             counts = count ∙ moved_stands.counts;
             own_hart = moved_stands.own_hart;

@@ -12,9 +12,9 @@ use Rattle.message.specs.OfHart.{of_hart}
 use Rattle.message.specs.declared.message.Message.{Message}
 use Rattle.auditing.proofs.SentLemmas.{next_of_hart}
 use Rattle.auditing.specs.Audits.{capped, number_after}
-use Rattle.auditing.specs.Fates.{true_ones}
 use Rattle.auditing.specs.Findings.{greatest_number}
 use Rattle.auditing.specs.Sent.{AreInTurn}
+use Rattle.live.specs.Compared.{known_trues}
 use Rattle.live.specs.Holding.{Holding}
 use Rattle.live.specs.Holds.{AreNumbers, Holds}
 use Rattle.live.specs.Live.{held, last_held}
@@ -52,7 +52,7 @@ numbered_at harts before (first ∷ messages) turn (suc k) message is =
 module _ (sent came : List Message) (front : ℕ) (own : Holding) (holds : Holds sent came front own)
     (more : front < length sent) where
   abbrev trues : List Message
-  trues = true_ones sent came
+  trues = known_trues own.by sent came
 
   abbrev gone : ℕ
   gone = given_up own.window front
@@ -78,10 +78,10 @@ module _ (sent came : List Message) (front : ℕ) (own : Holding) (holds : Holds
       same : gone ≡ given_up own.window (front + 1)
       same = let near = holds.near in omega (arith, near, few)
 
-  none_given : own.near ≤ own.window → None ≡ last_held came sent (given_up own.window (front + 1))
+  none_given : own.near ≤ own.window → None ≡ last_held own.by came sent (given_up own.window (front + 1))
   none_given few =
       let zero_given : 0 ≡ given_up own.window (front + 1) = let near = holds.near in omega (arith, near, few) in
-      ap (last_held came sent) zero_given
+      ap (last_held own.by came sent) zero_given
 
   module _ (far : own.window < own.near) where
     -- One more is given up.
@@ -181,11 +181,11 @@ module _ (sent came : List Message) (front : ℕ) (own : Holding) (holds : Holds
           (harts_passed (slice_get own.harts first.hart) refl hart numbers is);
     })
 
-    first_given : slice_get own.slots 0 ≡ last_held came sent (given_up own.window (front + 1))
+    first_given : slice_get own.slots 0 ≡ last_held own.by came sent (given_up own.window (front + 1))
     first_given =
         ap (λ l. slice_get l 0) shorter
         ∙ ap (option_map (held trues)) (sym found.1)
-        ∙ ap (last_held came sent) one_given
+        ∙ ap (last_held own.by came sent) one_given
 
   -- What is held after the front went on.
   pub passes : Holds sent came (front + 1) (passed own)
@@ -206,7 +206,7 @@ module _ (sent came : List Message) (front : ℕ) (own : Holding) (holds : Holds
           (sym (le-ltb own.window own.near few)) (near_passes few)
 
   -- What is given up then.
-  pub gives : passes_by own ≡ last_held came sent (given_up own.window (front + 1))
+  pub gives : passes_by own ≡ last_held own.by came sent (given_up own.window (front + 1))
   gives =
       ap (λ b. cond b (cond (ltb own.window own.near) (slice_get own.slots 0) None) None)
       (lt-ltb own.near (length own.slots) some_after)
@@ -214,7 +214,7 @@ module _ (sent came : List Message) (front : ℕ) (own : Holding) (holds : Holds
     where
       go : (own.window < own.near) ⊎ (own.near ≤ own.window)
           → cond (ltb own.window own.near) (slice_get own.slots 0) None
-          ≡ last_held came sent (given_up own.window (front + 1))
+          ≡ last_held own.by came sent (given_up own.window (front + 1))
       go (inl far) =
           ap (λ b. cond b (slice_get own.slots 0) None) (lt-ltb own.window own.near far) ∙ first_given far
       go (inr few) =

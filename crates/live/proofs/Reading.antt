@@ -10,6 +10,7 @@ use Rattle.std.proofs.lemmas.Bool.{and_left, cases_eq, cases_lt, eq-eqb, eqb-tru
 use Rattle.std.proofs.lemmas.List.{drop-append-le, length-drop, length-map, length-set, length_push}
 use Rattle.std.proofs.lemmas.List.{map_push, take-append-le}
 use Rattle.std.proofs.lemmas.Option.{slice_get_within}
+use Rattle.payload.specs.declared.by.By.{By}
 use Rattle.message.proofs.AcceptedLemmas.{slice_get-set}
 use Rattle.message.proofs.Elements.{slice_get-some}
 use Rattle.message.proofs.OfHartLemmas.{of_hart-next, of_hart-other}
@@ -19,10 +20,13 @@ use Rattle.message.specs.declared.fault.DemuxFault.TheVariants as demux
 use Rattle.message.specs.declared.message.Message.{Message}
 use Rattle.auditing.proofs.SentLemmas.{in_turn-next, next_of_hart}
 use Rattle.auditing.proofs.Appending.{or_false}
+use Rattle.auditing.proofs.KnownLemmas.{known-more}
 use Rattle.auditing.specs.Audits.{capped, number_after}
 use Rattle.auditing.specs.Fates.{has_number, is_numbered, is_same, is_true, true_ones}
 use Rattle.auditing.specs.Findings.{greatest_number}
+use Rattle.auditing.specs.Known.{known_all, known_one}
 use Rattle.auditing.specs.Sent.{AreInTurn, misplaced, misplaced_at, next_number}
+use Rattle.live.specs.Compared.{known_trues}
 use Rattle.live.specs.Holding.{Holding}
 use Rattle.live.specs.Holds.{AreNumbers, AreRead, Holds, IsReadFault}
 use Rattle.live.specs.Live.{held}
@@ -32,6 +36,7 @@ use Rattle.live.specs.declared.fault.ReadFault.TheVariants as fault
 use Rattle.live.specs.declared.numbers.Numbers.{Numbers}
 use Rattle.live.specs.declared.held.SentMessage.{SentMessage}
 use Rattle.live.specs.steps.Reading.{answered, harts_read, read_by, read_in, refusal_by}
+use Rattle.live.proofs.Known.{known_hart, known_read}
 use Rattle.live.proofs.Standings.{no_fewer, numbered_is}
 
 -- A hart of which nothing is found is none of the known ones.
@@ -128,9 +133,25 @@ module _ (sent : List Message) (message : Message) (next_one : message.number �
     still_read came read.1,
   )
 
+-- The same, as payloads are compared.
+module _ (how : By) (sent : List Message) (message : Message)
+    (next_one : message.number ≡ length (of_hart message.hart sent)) (came : List Message) (read : AreRead sent came) where
+  known_next : message.number ≡ length (of_hart message.hart (known_all how sent))
+  known_next = next_one ∙ sym (known_hart how message.hart sent)
+
+  pub known_same : known_trues how (sent ++ message ∷ []) came ≡ known_trues how sent came
+  known_same =
+      ap (λ l. true_ones l (known_all how came)) (known-more how sent message)
+      ∙ trues_same (known_all how sent) (known_one how message) known_next (known_all how came)
+      (known_read how sent came read)
+
+  pub known_not_come : has_number (known_trues how sent came) message.hart message.number ≡ false
+  known_not_come =
+      not_come (known_all how sent) (known_one how message) known_next (known_all how came) (known_read how sent came read)
+
 module _ (sent came : List Message) (front : ℕ) (own : Holding) (holds : Holds sent came front own) where
   abbrev trues : List Message
-  trues = true_ones sent came
+  trues = known_trues own.by sent came
 
   abbrev gone : ℕ
   gone = given_up own.window front
@@ -303,10 +324,10 @@ module _ (sent came : List Message) (front : ℕ) (own : Holding) (holds : Holds
         new_slot : slot ≡ held trues message
         new_slot =
             let P : Bool → SentMessage = λ b. record { message = message; came = b } in
-            ap P (sym (not_come sent message next_one came holds.came_read))
+            ap P (sym (known_not_come own.by sent message next_one came holds.came_read))
 
-        same_trues : true_ones (sent ++ message ∷ []) came ≡ trues
-        same_trues = trues_same sent message next_one came holds.came_read
+        same_trues : known_trues own.by (sent ++ message ∷ []) came ≡ trues
+        same_trues = known_same own.by sent message next_one came holds.came_read
 
         fewer : (hart : ℕ) → (message.hart ≡ hart) ⊎ (message.hart ≡ hart → ⊥)
             → length (of_hart hart (sent ++ message ∷ [])) < 2 ^ 64
@@ -320,7 +341,8 @@ module _ (sent came : List Message) (front : ℕ) (own : Holding) (holds : Holds
 
         counted_of : (hart : ℕ) (other : Numbers)
             → ((message.hart ≡ hart) × (other ≡ longer numbers)) ⊎ ((message.hart ≢ hart) × (slice_get own.harts hart ≡ Some other))
-            → AreNumbers (take gone (sent ++ message ∷ [])) (sent ++ message ∷ []) (true_ones (sent ++ message ∷ []) came) hart other
+            → AreNumbers (take gone (sent ++ message ∷ [])) (sent ++ message ∷ [])
+            (known_trues own.by (sent ++ message ∷ []) came) hart other
         counted_of hart other (inl both) = record {
           gone =
               ap (λ (n : Numbers). n.gone) both.1
@@ -337,7 +359,7 @@ module _ (sent came : List Message) (front : ℕ) (own : Holding) (holds : Holds
               ap (λ (n : Numbers). n.past) both.1
               ∙ (holds.harts message.hart numbers at).past
               ∙ ap (λ t. number_after (greatest_number t message.hart)) (sym same_trues)
-              ∙ ap (λ h. number_after (greatest_number (true_ones (sent ++ message ∷ []) came) h)) both.0;
+              ∙ ap (λ h. number_after (greatest_number (known_trues own.by (sent ++ message ∷ []) came) h)) both.0;
         }
         counted_of hart other (inr both) = record {
           gone = (holds.harts hart other both.1).gone ∙ ap (λ l. length (of_hart hart l)) (sym same_given);

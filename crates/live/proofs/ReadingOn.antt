@@ -26,6 +26,7 @@ use Rattle.live.specs.steps.Looking.{IsReadLast}
 use Rattle.live.specs.steps.Reading.{refusal_by}
 use Rattle.live.proofs.Following.{reads_more}
 use Rattle.live.proofs.Reading.{held_count, not_last, placed_if}
+use Rattle.live.proofs.Widening.{stands_reads}
 use Rattle.live.proofs.Steps.{goes_as, goes_then, moves_joined, moves_none, moves_one, passes_front, then_stays}
 
 module _ (all : Audited) (read : ℕ) (state : State) (own : LiveHolding) (left : Left)
@@ -217,21 +218,13 @@ module _ (all : Audited) (right : IsAudited all) (read : ℕ) (state : State) (o
   -- One message more was read.
   pub reads_one : (after : Left) (new : Holding) → slice_get all.sent read ≡ Some message
       → after ≡ left_after all (read + 1) → Holds (take read all.sent ++ message ∷ []) moved.came moved.front new
-      → new.window ≡ placed.window.window → length new.harts ≡ length placed.window.harts
+      → new.window ≡ placed.window.window → length new.harts ≡ length placed.window.harts → new.by ≡ placed.window.by
       → GoesTo all (read + 1) Told (moves_near all (read + 1) state) (record placed { window = new }) after
-  reads_one after new is rest holds window harts = record {
-    stands = record {
-      reads =
-          reads_more all right read moved.came moved.front placed.window left place.0.stands.reads message after new is rest
-          holds window harts;
-      waiting = place.0.stands.waiting;
-      runs = place.0.stands.runs;
-      waits = place.0.stands.waits;
-      counts = place.0.stands.counts;
-      own_hart = place.0.stands.own_hart;
-      some = place.0.stands.some;
-      few = place.0.stands.few;
-    };
+  reads_one after new is rest holds window harts by = record {
+    stands =
+        stands_reads all read moved placed left place.0.stands (read + 1) moved.came moved.front new after
+        (reads_more all right read moved.came moved.front placed.window left place.0.stands.reads message after new is rest
+        holds window harts by);
     told = place.0.told;
   }
 
@@ -257,14 +250,14 @@ module _ (all : Audited) (right : IsAudited all) (read : ℕ) (state : State) (o
       → IsReadLast (take read all.sent) (moves_near all (read + 1) state).state.came
       (moves_near all (read + 1) state).state.front message hart number (length placed.window.harts) placed.window.window
       result new
-      → new.window ≡ placed.window.window → length new.harts ≡ length placed.window.harts
+      → new.window ≡ placed.window.window → length new.harts ≡ length placed.window.harts → new.by ≡ placed.window.by
       → ReadsNext all read Told state hart number result (record placed { window = new }) after
-  read_last (Ok last) last_is window harts =
+  read_last (Ok last) last_is window harts by =
       as_read_next all read Told state hart number (record placed { window = new }) after message is last last_is.0
-      (reads_one all right read state own left stands message none Told placed place after new is rest last_is.1 window harts)
-  read_last (Err (look.Sent why)) fault window harts =
+      (reads_one all right read state own left stands message none Told placed place after new is rest last_is.1 window harts by)
+  read_last (Err (look.Sent why)) fault window harts by =
       absurd (never_misplaced all right read state own left stands message none Told placed place why fault)
-  read_last (Err (look.Source why)) fault window harts = absurd fault
+  read_last (Err (look.Source why)) fault window harts by = absurd fault
 
 module _ (Lines : Type 0) (Told : Lines → List Line → Lines → Type 0)
     (joined : (first between last : Lines) (before after : List Line) → Told first before between

@@ -26,7 +26,7 @@ use Rattle.live.specs.steps.Waiting.{without}
 use Rattle.live.proofs.Judging.{slice_get-drop}
 use Rattle.live.proofs.Standings.{numbered_is, stands_at, turns_split}
 use Rattle.live.proofs.Steps.{goes_as, goes_then, stops_then}
-use Rattle.live.proofs.Widening.{get_taken, one_is, read_number}
+use Rattle.live.proofs.Widening.{get_taken, one_is, read_number, stands_reads}
 
 -- What waits of each hart, where this one waits of one.
 waiting_set : (waiting : List (Option Arrived)) (hart : ℕ) (own : Option Arrived) → hart < length waiting → (other : ℕ)
@@ -85,6 +85,7 @@ module _ (all : Audited) (read : ℕ) (state : State) (own : LiveHolding) (left 
     waiting =
         fun_ext (waiting_without own.waiting hart) ∙ ap (λ w. with_own w hart None) stands.waiting;
     runs = stands.runs;
+    by = stands.by;
     waits = length-set own.waiting hart None ∙ stands.waits;
     counts = stands.counts;
     own_hart = still_own state.waiting hart None stands.own_hart (λ one is. cc);
@@ -102,6 +103,7 @@ module _ (all : Audited) (read : ℕ) (state : State) (own : LiveHolding) (left 
         (waiting_set own.waiting one.message.hart (Some one) (subst (λ n. one.message.hart < n) (sym stands.waits) within))
         ∙ ap (λ w. with_own w one.message.hart (Some one)) stands.waiting;
     runs = stands.runs;
+    by = stands.by;
     waits = length-set own.waiting one.message.hart (Some one) ∙ stands.waits;
     counts = stands.counts;
     own_hart =
@@ -206,16 +208,7 @@ found_asked all read state own left stands is (Ok found) window after its = (
   its.0,
   (
     its.1.0,
-    record {
-      reads = its.1.1;
-      waiting = stands.waiting;
-      runs = stands.runs;
-      waits = stands.waits;
-      counts = stands.counts;
-      own_hart = stands.own_hart;
-      some = stands.some;
-      few = stands.few;
-    },
+    stands_reads all read state own left stands its.1.0 state.came state.front window after its.1.1,
   ),
 )
 found_asked all read state own left stands is (Err why) window after its = its
@@ -245,14 +238,14 @@ module _ (Lines : Type 0) (Told : Lines → List Line → Lines → Type 0)
   pub last_strange : (read : ℕ) (state : State) (one : Arrived) (own : LiveHolding) (left : Left)
       → standing_now all.window all.sent state one.message ≡ standing.Beyond
       → GoesTo all read (λ told. Told first told between) (stays state) own left
-      → Told between (Decided one finding.Stranger ∷ []) last
+      → Told between (Decided one finding.Stranger None ∷ []) last
       → GoesTo all read (λ told. Told first told last) (judged strange all.window all.sent state one) own left
   last_strange read state one own left beyond goes told =
       goes_as all read (λ t. Told first t last) (strange state one) (judged strange all.window all.sent state one) own left
       (sym (judged_beyond strange all state one beyond))
       (record {
         stands = goes.stands;
-        told = joined first between last [] (Decided one finding.Stranger ∷ []) goes.told told;
+        told = joined first between last [] (Decided one finding.Stranger None ∷ []) goes.told told;
       })
 
 -- What is beyond waits.

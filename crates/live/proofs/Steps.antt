@@ -5,7 +5,7 @@ use Rattle.std.proofs.lemmas.Bool.{cases_lt}
 use Rattle.std.proofs.lemmas.List.{append-nil, append_assoc, drop-append-le, drop-take, drop_all, length-drop, length-take}
 use Rattle.std.proofs.lemmas.List.{take-append-drop, take-take}
 use Rattle.message.specs.declared.message.Message.{Message}
-use Rattle.auditing.specs.Findings.{finding_of}
+use Rattle.live.specs.Compared.{known_finding}
 use Rattle.live.specs.Auditing.{GoesTo, LiveHolding, Stops, StopsNear}
 use Rattle.live.specs.Following.{Audited, IsLookFault, Left}
 use Rattle.live.specs.Lines.{Line}
@@ -53,7 +53,7 @@ met_front sent state message None = refl
 met_front sent state message (Some one) = go (eqb one.message.number message.number)
   where
     go : (same : Bool)
-        → (cond same (finds (settles state message.hart) one (finding_of sent state.came one.message)) (stays state)).state.front
+        → (cond same (finds sent (settles state message.hart) one (known_finding state.by sent state.came one.message)) (stays state)).state.front
         ≡ state.front
     go true = refl
     go false = refl
@@ -68,7 +68,7 @@ pub passes_front : (window : ℕ) (sent : List Message) (state : State) (message
     → (passes window sent state message).state.front ≡ state.front + 1
 passes_front window sent state message =
     let first = met sent (record state { front = state.front + 1 }) message (state.waiting message.hart) in
-    gives_front first.state (last_held first.state.came sent (given_up window first.state.front))
+    gives_front first.state (last_held first.state.by first.state.came sent (given_up window first.state.front))
     ∙ met_front sent (record state { front = state.front + 1 }) message (state.waiting message.hart)
 
 -- The front goes on by as many as it goes on over.

@@ -9,8 +9,8 @@ use Rattle.message.proofs.OfHartLemmas.{of_hart-append}
 use Rattle.message.specs.OfHart.{of_hart}
 use Rattle.message.specs.declared.message.Message.{Message}
 use Rattle.auditing.proofs.SentLemmas.{none_beyond}
-use Rattle.auditing.specs.Fates.{true_ones}
 use Rattle.auditing.specs.Sent.{AreInTurn}
+use Rattle.live.specs.Compared.{known_trues}
 use Rattle.live.specs.Holding.{Holding}
 use Rattle.live.specs.Holds.{Holds, is_wanted}
 use Rattle.live.specs.Live.{held}
@@ -120,7 +120,7 @@ module _ (sent came : List Message) (front : ℕ) (own : Holding) (holds : Holds
   at_place high k is =
       sym (by_tests false (le-ltb number (length (of_hart hart given)) high)
       ∙ stands_at (length own.harts) given later turn 0 hart number k
-      (sym (held_at (true_ones sent came) later hart number k) ∙ ap (λ l. is_at l hart number k) (sym holds.slots) ∙ is)
+      (sym (held_at (known_trues own.by sent came) later hart number k) ∙ ap (λ l. is_at l hart number k) (sym holds.slots) ∙ is)
       ∙ ap standing.At (omega arith))
 
   -- A message that is held at no place is beyond.
@@ -129,7 +129,7 @@ module _ (sent came : List Message) (front : ℕ) (own : Holding) (holds : Holds
   nowhere high none =
       sym (by_tests false (le-ltb number (length (of_hart hart given)) high)
       ∙ stands_nowhere later 0 hart number
-      (λ k. sym (held_at (true_ones sent came) later hart number k) ∙ ap (λ l. is_at l hart number k) (sym holds.slots) ∙ none k))
+      (λ k. sym (held_at (known_trues own.by sent came) later hart number k) ∙ ap (λ l. is_at l hart number k) (sym holds.slots) ∙ none k))
 
   -- How many places in view are left.
   abbrev left : ℕ

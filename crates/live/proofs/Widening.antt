@@ -3,16 +3,21 @@ use Rattle.std.proofs.Common.{◌≡◌, ℕ, zero, suc, ◌+◌, ◌<◌, ◌�
 use Rattle.std.proofs.Common.{Option, Some, None, drop, length, map, slice_get, take, refl, sym, ap, subst, ◌∙◌, arith}
 use Rattle.std.specs.Prelude.{option_map}
 use Rattle.std.proofs.lemmas.Bool.{and_from, eq-eqb, false_from_ne_true}
-use Rattle.std.proofs.lemmas.List.{append-nil, append_assoc, length-take, take-append-drop, take-take, take_all}
+use Rattle.std.proofs.lemmas.List.{append-nil, append_assoc, length-take, map-append, take-append-drop, take-take, take_all}
 use Rattle.std.proofs.lemmas.List.Folds.{list_any-append}
 use Rattle.message.specs.OfHart.{of_hart}
 use Rattle.message.specs.declared.message.Message.{Message}
 use Rattle.auditing.proofs.Appending.{or_false}
+use Rattle.auditing.proofs.KnownLemmas.{known-turn}
 use Rattle.auditing.proofs.SentLemmas.{next_of_hart}
 use Rattle.auditing.specs.Fates.{has_greater, has_number, is_numbered, is_true, true_ones}
 use Rattle.auditing.specs.Findings.{finding_by, finding_of, greatest_number}
+use Rattle.auditing.specs.Known.{known_all, known_one}
 use Rattle.auditing.specs.Sent.{AreInTurn}
 use Rattle.auditing.specs.declared.fate.Fate.TheVariants as fate
+use Rattle.auditing.specs.declared.finding.Finding.{Finding}
+use Rattle.auditing.specs.declared.finding.Finding.TheVariants as finding
+use Rattle.live.specs.Compared.{changed_from, known_finding, known_trues}
 use Rattle.live.specs.Auditing.{LiveHolding, Stands}
 use Rattle.live.specs.Following.{Audited, IsAudited, IsLooked, Left, Reads}
 use Rattle.live.specs.Holding.{Holding}
@@ -21,7 +26,9 @@ use Rattle.live.specs.Live.{State, held, last_held}
 use Rattle.live.specs.View.{given_up, in_view, is_below, standing_from, standing_of}
 use Rattle.live.specs.declared.standing.Standing.TheVariants as standing
 use Rattle.live.specs.steps.Searching.{is_slot}
+use Rattle.live.proofs.InView.{found, in_sent, payload_at, payload_is}
 use Rattle.live.proofs.Judging.{slice_get-drop, stands_where}
+use Rattle.live.proofs.Known.{known_low, known_read}
 use Rattle.live.proofs.Passing.{numbered_at, take_to}
 use Rattle.live.proofs.Reading.{counts_more, still_read, true_same, trues_same}
 use Rattle.live.proofs.Standings.{is_one, no_fewer, numbered_is, turns_split}
@@ -209,29 +216,73 @@ module _ (all : Audited) (right : IsAudited all) (read : ℕ) (came : List Messa
       (turns_split all.harts [] some (drop read all.sent)
       (subst (λ l. AreInTurn all.harts [] l) (sym parts) right.in_turn)).1
 
+  -- The same, as payloads are compared.
+  abbrev known : List Message → List Message
+  known = known_all own.by
+
+  known_parts : known some ++ known (drop read all.sent) ≡ known all.sent
+  known_parts = sym (map-append (known_one own.by) some (drop read all.sent)) ∙ ap known parts
+
+  turn_known : AreInTurn all.harts (known some) (known (drop read all.sent))
+  turn_known = known-turn own.by all.harts some (drop read all.sent) turn
+
   -- The true ones of those that came are so by all of SENT.
-  pub wide_trues : true_ones all.sent came ≡ true_ones (take read all.sent) came
+  pub wide_trues : known_trues own.by all.sent came ≡ known_trues own.by (take read all.sent) came
   wide_trues =
-      ap (λ l. true_ones l came) (sym parts)
-      ∙ wide_came all.harts some (drop read all.sent) turn came reads.holds.came_read
+      ap (λ l. true_ones l (known came)) (sym known_parts)
+      ∙ wide_came all.harts (known some) (known (drop read all.sent)) turn_known (known came)
+      (known_read own.by some came reads.holds.came_read)
 
   -- What is found of a message whose number was read is found by all of SENT.
   pub wide_finding : (message : Message) → message.number < length (of_hart message.hart (take read all.sent))
-      → finding_of all.sent came message ≡ finding_of (take read all.sent) came message
+      → known_finding own.by all.sent came message ≡ known_finding own.by (take read all.sent) came message
   wide_finding message low =
-      same_finding all.sent some came message
-      (ap (λ l. has_number l message.hart message.number) (sym parts)
-      ∙ wide_number all.harts some (drop read all.sent) turn message.hart message.number low)
-      (ap (λ l. is_true l message) (sym parts) ∙ wide_true all.harts some (drop read all.sent) turn message low)
+      same_finding (known all.sent) (known some) (known came) (known_one own.by message)
+      (ap (λ l. has_number l message.hart message.number) (sym known_parts)
+      ∙ wide_number all.harts (known some) (known (drop read all.sent)) turn_known message.hart message.number known_low_one)
+      (ap (λ l. is_true l (known_one own.by message)) (sym known_parts)
+      ∙ wide_true all.harts (known some) (known (drop read all.sent)) turn_known (known_one own.by message) known_low_one)
       wide_trues
+    where
+      known_low_one : message.number < length (of_hart message.hart (known some))
+      known_low_one = known_low own.by some message.hart message.number low
+
+  -- The payload that SENT has of a message in view.
+  pub wide_changed : (message : Message) (place : ℕ)
+      → standing_of own.window (take read all.sent) front message.hart message.number ≡ standing.At place
+      → (finding : Finding) → changed_from (take read all.sent) message finding ≡ changed_from all.sent message finding
+  wide_changed message place at finding.Changed =
+      payload_is some came front own reads.holds message place at
+      ∙ sym (payload_at all.harts [] all.sent right.in_turn message.hart message.number (given_up own.window front + place)
+      one.0 there one.2)
+    where
+      one : (one : Message) × (slice_get (drop (given_up own.window front) some) place ≡ Some one)
+          × (is_numbered message.hart message.number one ≡ true)
+      one = found some came front own reads.holds message place at
+
+      there : slice_get all.sent (given_up own.window front + place) ≡ Some one.0
+      there =
+          sym (get_taken all.sent read (given_up own.window front + place)
+          (let less = in_view_within own.window some front message.hart message.number place at in
+          let count = length-take read all.sent in omega (arith, less, count)))
+          ∙ in_sent some came front own reads.holds message place at
+  wide_changed message place at finding.Stranger = refl
+  wide_changed message place at finding.Repeat = refl
+  wide_changed message place at (finding.Late by) = refl
+  wide_changed message place at (finding.InOrder skips) = refl
 
   -- The last of so many messages that were read, by all of SENT.
   pub wide_last : (count : ℕ) → count ≤ read
-      → last_held came all.sent count ≡ last_held came (take read all.sent) count
+      → last_held own.by came all.sent count ≡ last_held own.by came (take read all.sent) count
   wide_last zero within = refl
   wide_last (suc place) within =
       ap (λ t. option_map (held t) (slice_get all.sent place)) wide_trues
-      ∙ ap (option_map (held (true_ones some came))) (sym (get_taken all.sent read place (omega (arith, within))))
+      ∙ ap (option_map (held (known_trues own.by some came))) (sym (get_taken all.sent read place (omega (arith, within))))
+
+-- By what payloads are compared.
+pub by_is : (all : Audited) (read : ℕ) (state : State) (own : LiveHolding) (left : Left) → Stands all read state own left
+    → own.window.by ≡ state.by
+by_is all read state own left stands = stands.reads.by ∙ sym stands.by
 
 -- A message that is held.
 held_get : (trues messages : List Message) (k : ℕ) (message : Message) → slice_get messages k ≡ Some message
@@ -252,17 +303,19 @@ module _ (all : Audited) (right : IsAudited all) (read : ℕ) (state : State) (o
   front_at =
       ap (slice_get (take read all.sent)) stands.reads.holds.near ∙ get_taken all.sent read state.front before ∙ is
 
-  front_some : slice_get own.window.slots own.window.near ≡ Some (held (true_ones (take read all.sent) state.came) message)
+  front_some : slice_get own.window.slots own.window.near
+      ≡ Some (held (known_trues own.window.by (take read all.sent) state.came) message)
   front_some =
       ap (λ l. slice_get l own.window.near) stands.reads.holds.slots
-      ∙ held_get (true_ones (take read all.sent) state.came) (drop gone (take read all.sent)) own.window.near message
+      ∙ held_get (known_trues own.window.by (take read all.sent) state.came) (drop gone (take read all.sent)) own.window.near message
       (slice_get-drop (take read all.sent) gone own.window.near ∙ front_at)
 
   pub front_held : slice_get own.window.slots own.window.near
-      ≡ Some (held (true_ones all.sent state.came) message)
+      ≡ Some (held (known_trues state.by all.sent state.came) message)
   front_held =
       front_some
       ∙ ap (λ t. Some (held t message)) (sym (wide_trues all right read state.came state.front own.window left stands.reads))
+      ∙ ap (λ h. Some (held (known_trues h all.sent state.came) message)) (by_is all read state own left stands)
 
   pub front_stands : standing_of own.window.window (take read all.sent) state.front message.hart message.number
       ≡ standing.At own.window.near
@@ -279,18 +332,27 @@ module _ (all : Audited) (right : IsAudited all) (read : ℕ) (state : State) (o
           (take-take gone read all.sent (omega (arith, near, before))) in
           omega (arith, number, fewer, same)
 
--- SENT was read to look a message up: the same is held, and where the message is does not depend on what follows.
-pub stands_looked : (all : Audited) (read : ℕ) (state : State) (own : LiveHolding) (left : Left)
-    → Stands all read state own left → (hart number : ℕ) (window : Holding) (after : Left)
-    → (looked : IsLooked all read state.came state.front hart number window after)
-    → Stands all looked.read state (record own { window = window }) after
-stands_looked all read state own left stands hart number window after looked = record {
-  reads = looked.reads;
+-- The same waits, and the same runs go on, where other messages came, the front is elsewhere, or more was read.
+pub stands_reads : (all : Audited) (read : ℕ) (state : State) (own : LiveHolding) (left : Left)
+    → Stands all read state own left → (other : ℕ) (came : List Message) (front : ℕ) (window : Holding) (after : Left)
+    → Reads all other came front window after
+    → Stands all other (record state { came = came; front = front }) (record own { window = window }) after
+stands_reads all read state own left stands other came front window after reads = record {
+  reads = reads;
   waiting = stands.waiting;
   runs = stands.runs;
+  by = stands.by;
   waits = stands.waits;
   counts = stands.counts;
   own_hart = stands.own_hart;
   some = stands.some;
   few = stands.few;
 }
+
+-- SENT was read to look a message up: the same is held, and where the message is does not depend on what follows.
+pub stands_looked : (all : Audited) (read : ℕ) (state : State) (own : LiveHolding) (left : Left)
+    → Stands all read state own left → (hart number : ℕ) (window : Holding) (after : Left)
+    → (looked : IsLooked all read state.came state.front hart number window after)
+    → Stands all looked.read state (record own { window = window }) after
+stands_looked all read state own left stands hart number window after looked =
+    stands_reads all read state own left stands looked.read state.came state.front window after looked.reads

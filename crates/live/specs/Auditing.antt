@@ -1,9 +1,10 @@
 -- What a live audit holds, and what it stands for.
-use Rattle.std.specs.Prelude.{ℕ, ◌≡◌, ◌-◌, ◌^◌, ◌≤◌, ◌++◌, List, Option, Some, None, Result, Ok, Err, length, slice_get}
+use Rattle.std.specs.Prelude.{ℕ, ◌≡◌, ◌+◌, ◌-◌, ◌^◌, ◌<◌, ◌≤◌, ◌++◌, Bool, true, false, List, [], Option, Some, None}
+use Rattle.std.specs.Prelude.{Result, Ok, Err, length, slice_get}
 use Rattle.live.specs.Following.{Audited, EndsWell, IsLookFault, Left, Reads}
 use Rattle.live.specs.Holding.{Holding}
 use Rattle.live.specs.Lines.{Line}
-use Rattle.live.specs.Live.{State, Step, finished, moves_to}
+use Rattle.live.specs.Live.{State, Step, finished, moves_to, stays}
 use Rattle.live.specs.Runs.{no_run}
 use Rattle.live.specs.declared.arrived.Arrived.{Arrived}
 use Rattle.live.specs.declared.fault.LookFault.{LookFault}
@@ -39,6 +40,7 @@ pub record Stands (all : Audited) (read : ℕ) (state : State) (own : LiveHoldin
   pub reads : Reads all read state.came state.front own.window left
   pub waiting : waiting_in own.waiting ≡ state.waiting
   pub runs : runs_in own.runs ≡ state.runs
+  pub by : state.by ≡ all.by
   pub waits : length own.waiting ≡ all.harts
   pub counts : length own.runs ≡ all.harts
   pub own_hart : (hart : ℕ) (one : Arrived) → state.waiting hart ≡ Some one → one.message.hart ≡ hart
@@ -79,6 +81,15 @@ moves_near all read state = moves_to all.window all.sent (read - all.window) sta
 abbrev pub StopsNear : Audited → (List Line → Type 0) → State → Step → LookFault → Type 0
 StopsNear all Told state step why =
     (stops : Stops all Told step why) × (stops.first ≡ (moves_near all stops.read state).lines)
+
+-- RECEIVED has ended, and one message more of SENT was read, with the front at least a window before it; or SENT has ended
+-- too, without a fault; or it could not be read on.
+abbrev pub ReadsSent : Audited → ℕ → (List Line → Type 0) → State → Result Bool LookFault → LiveHolding → Left → Type 0
+ReadsSent all read Told state (Ok false) own left =
+    (read < length all.sent) × GoesTo all (read + 1) Told (moves_near all (read + 1) state) own left
+ReadsSent all read Told state (Ok true) own left =
+    (read ≡ length all.sent) × GoesTo all read Told (stays state) own left × EndsWell all
+ReadsSent all read Told state (Err why) own left = IsLookFault all read why × Told []
 
 -- The lines that are left were handed over, and SENT has no fault; or it could not be read on.
 abbrev pub Ended : {U : Type 0} → Audited → (List Line → Type 0) → State → Result U LookFault → Type 0

@@ -1,6 +1,8 @@
 -- What is read of SENT from where it comes.
-use Rattle.std.specs.Prelude.{ℕ, ◌≡◌, ◌≢◌, ◌-◌, ◌^◌, ◌<◌, ◌≤◌, ◌++◌, true, List, [], ◌∷◌, Option, Some, None, Result, Ok, Err}
+use Rattle.std.specs.Prelude.{ℕ, ◌≡◌, ◌≢◌, ◌-◌, ◌^◌, ◌<◌, ◌≤◌, ◌++◌, true, Bool, List, [], ◌∷◌, Option, Some, None}
+use Rattle.std.specs.Prelude.{Result, Ok, Err}
 use Rattle.std.specs.Prelude.{drop, length, option_map, slice_get, take}
+use Rattle.payload.specs.declared.by.By.{By}
 use Rattle.message.specs.declared.fault.DemuxFault.{DemuxFault}
 use Rattle.message.specs.declared.fault.MessageFault.{MessageFault}
 use Rattle.message.specs.declared.message.Message.{Message}
@@ -14,40 +16,46 @@ use Rattle.live.specs.declared.fault.ReadFault.TheVariants as fault
 use Rattle.live.specs.declared.fault.SourceFault.{SourceFault}
 use Rattle.live.specs.declared.fault.SourceFault.TheVariants as source
 
--- What is left of a source of messages: those that it gives, and why there is no complete message after them. There is no
--- reason where its bytes end with the last message.
+-- What is left of a source of messages: whether that is known, the messages that it gives, and why there is no complete
+-- message after them. There is no reason where its bytes end with the last message.
 pub record Left : Type 0 where
+  pub known : Bool
   pub messages : List Message
   pub ending : Option MessageFault
 
 -- This message is left, and then what is left after it.
 abbrev pub left_with : Message → Left → Left
-left_with message left = record { messages = message ∷ left.messages; ending = left.ending }
+left_with message left = record left { messages = message ∷ left.messages }
 
 -- Why a source does not give the next message: where it says that there is no complete one, none is left, and that is the
 -- reason. It may fail at any place.
 abbrev pub IsSourceFault : SourceFault → Left → Type 0
-IsSourceFault (source.Unread why) left = left ≡ record { messages = []; ending = Some why }
+IsSourceFault (source.Unread why) left = left ≡ record { known = true; messages = []; ending = Some why }
 IsSourceFault other left = Unit {0}
 
 -- What a source of messages gives, by what was left and what is.
-abbrev pub IsNext : Result (Option Message) SourceFault → Left → Left → Type 0
-IsNext (Ok (Some message)) old new = old ≡ left_with message new
-IsNext (Ok None) old new = (old ≡ record { messages = []; ending = None }) × (new ≡ old)
-IsNext (Err why) old new = IsSourceFault why old
+abbrev pub Gives : Result (Option Message) SourceFault → Left → Left → Type 0
+Gives (Ok (Some message)) old new = old ≡ left_with message new
+Gives (Ok None) old new = (old ≡ record { known = true; messages = []; ending = None }) × (new ≡ old)
+Gives (Err why) old new = IsSourceFault why old
 
--- What is audited: how many harts there are, the window, the messages of SENT, those that follow them there, and why there
--- is no complete message after all of them.
+-- The same, where it is known what was left. Else nothing is said.
+abbrev pub IsNext : Result (Option Message) SourceFault → Left → Left → Type 0
+IsNext result old new = old.known ≡ true → Gives result old new
+
+-- What is audited: how many harts there are, the window, by what payloads are compared, the messages of SENT, those that
+-- follow them there, and why there is no complete message after all of them.
 pub record Audited : Type 0 where
   pub harts : ℕ
   pub window : ℕ
+  pub by : By
   pub sent : List Message
   pub rest : List Message
   pub ending : Option MessageFault
 
 -- What is left of SENT after so many of its messages, with what follows it.
 abbrev pub left_after : Audited → ℕ → Left
-left_after all read = record { messages = drop read all.sent ++ all.rest; ending = all.ending }
+left_after all read = record { known = true; messages = drop read all.sent ++ all.rest; ending = all.ending }
 
 -- SENT has no fault: no message follows, and no bytes that are none.
 pub record EndsWell (all : Audited) : Type 0 where
@@ -72,6 +80,7 @@ pub record Reads (all : Audited) (read : ℕ) (came : List Message) (front : ℕ
   pub remains : left ≡ left_after all read
   pub harts : length own.harts ≡ all.harts
   pub window : own.window ≡ all.window
+  pub by : own.by ≡ all.by
 
 -- The first of these messages is not the next one of its hart after these, for this reason.
 abbrev pub BeginsMisplaced : ℕ → List Message → List Message → DemuxFault → Type 0
@@ -111,6 +120,7 @@ pub record IsStopped (all : Audited) (first : ℕ) (came : List Message) (front 
   pub within : read ≤ length all.sent
   pub harts : length own.harts ≡ all.harts
   pub window : own.window ≡ all.window
+  pub by : own.by ≡ all.by
   pub more : first ≤ read
   pub wanted : AllWanted all first read front hart number
   pub fault : IsLookFault all read why

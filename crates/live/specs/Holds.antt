@@ -2,13 +2,14 @@
 use Rattle.std.specs.Prelude.{ℕ, ◌≡◌, ◌⊎◌, ◌+◌, ◌-◌, ◌^◌, ◌<◌, ◌≤◌, ◌++◌, ◌&&◌, not, nat_lt, Bool, if◌then◌else◌, List, [], ◌∷◌}
 use Rattle.std.specs.Prelude.{Some, None, drop, length, map, slice_get, take}
 use Rattle.std.specs.List.{AllByRecursion}
+use Rattle.payload.specs.declared.by.By.{By}
 use Rattle.message.specs.OfHart.{of_hart}
 use Rattle.message.specs.declared.message.Message.{Message}
 use Rattle.auditing.specs.Audits.{number_after}
-use Rattle.auditing.specs.Fates.{true_ones}
-use Rattle.auditing.specs.Findings.{finding_of, greatest_number}
+use Rattle.auditing.specs.Findings.{greatest_number}
 use Rattle.auditing.specs.Sent.{AreInTurn, misplaced}
 use Rattle.auditing.specs.declared.finding.Finding.{Finding}
+use Rattle.live.specs.Compared.{known_finding, known_trues}
 use Rattle.live.specs.Holding.{Holding}
 use Rattle.live.specs.Live.{held, is_new}
 use Rattle.live.specs.View.{given_up, up_to}
@@ -34,7 +35,7 @@ AreRead sent messages = AllByRecursion (λ (message : Message). message.number <
 -- SENT are up to the front: the messages that are not given up, which are those in view. SENT was read to the front at
 -- least, and to a window after it at most. Each message of it is the next one of its hart.
 pub record Holds (sent came : List Message) (front : ℕ) (own : Holding) : Type 0 where
-  pub slots : own.slots ≡ map (held (true_ones sent came)) (drop (given_up own.window front) sent)
+  pub slots : own.slots ≡ map (held (known_trues own.by sent came)) (drop (given_up own.window front) sent)
   pub near : given_up own.window front + own.near ≡ front
   pub read : front ≤ length sent
   pub ahead : length sent ≤ front + own.window
@@ -42,7 +43,7 @@ pub record Holds (sent came : List Message) (front : ℕ) (own : Holding) : Type
   pub came_read : AreRead sent came
   pub few : (hart : ℕ) → length (of_hart hart sent) < 2 ^ 64
   pub harts : (hart : ℕ) (numbers : Numbers) → slice_get own.harts hart ≡ Some numbers
-      → AreNumbers (take (given_up own.window front) sent) sent (true_ones sent came) hart numbers
+      → AreNumbers (take (given_up own.window front) sent) sent (known_trues own.by sent came) hart numbers
 
 -- The next message of SENT may be this one: the hart is known, the number was not read, and there are as many places left
 -- in view as it needs, if all that comes before it is of its hart.
@@ -66,11 +67,11 @@ abbrev pub judged_as : ℕ → Finding → Judged
 judged_as ahead its = judged.Found its (if is_new its then ahead else 0)
 
 -- What becomes of a message that is looked up, by where it is.
-abbrev pub judged_by : ℕ → List Message → List Message → ℕ → Message → Standing → Judged
-judged_by window sent came front message standing.Below = judged.TooLate
-judged_by window sent came front message standing.Beyond = judged.Undecided
-judged_by window sent came front message (standing.At place) =
-    judged_as (up_to window front place - front) (finding_of sent came message)
+abbrev pub judged_by : By → ℕ → List Message → List Message → ℕ → Message → Standing → Judged
+judged_by how window sent came front message standing.Below = judged.TooLate
+judged_by how window sent came front message standing.Beyond = judged.Undecided
+judged_by how window sent came front message (standing.At place) =
+    judged_as (up_to window front place - front) (known_finding how sent came message)
 
 -- The messages that came and were in view, with one that is looked up, by where it is.
 abbrev pub came_by : List Message → Message → Standing → List Message

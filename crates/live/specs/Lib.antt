@@ -1,10 +1,15 @@
 pub mod View
+pub mod Compared
 pub mod Lines
 pub mod Runs
 pub mod Live
 pub mod Written
+pub mod Rows
+pub mod CountsMore
 pub mod Holding
 pub mod Holds
 pub mod Following
 pub mod Auditing
+pub mod Received
+pub mod ReceivedLeft
 pub mod steps

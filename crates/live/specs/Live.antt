@@ -2,11 +2,12 @@
 use Rattle.std.specs.Prelude.{ℕ, ◌+◌, ◌-◌, ◌==◌, ◌&&◌, ◌++◌, min, not, nat_lt, nat_le, Bool, true, false, if◌then◌else◌}
 use Rattle.std.specs.Prelude.{zero, suc, List, [], ◌∷◌, Option, Some, None, drop, length, map, option_map, slice_get, take}
 use Rattle.std.specs.List.{flat_map, position_or_len, range_with_len}
+use Rattle.payload.specs.declared.by.By.{By}
 use Rattle.message.specs.declared.message.Message.{Message}
-use Rattle.auditing.specs.Fates.{has_number, is_numbered, true_ones}
-use Rattle.auditing.specs.Findings.{finding_of}
+use Rattle.auditing.specs.Fates.{has_number, is_numbered}
 use Rattle.auditing.specs.declared.finding.Finding.{Finding}
 use Rattle.auditing.specs.declared.finding.Finding.TheVariants as finding
+use Rattle.live.specs.Compared.{known_finding, known_trues, changed_from}
 use Rattle.live.specs.Lines.{Line, Decided, TooLate, GivenUp}
 use Rattle.live.specs.Runs.{is_written, no_run, run_left, run_lines, run_with}
 use Rattle.live.specs.View.{given_up, standing_of, up_to}
@@ -16,17 +17,18 @@ use Rattle.live.specs.declared.run.Run.{Run}
 use Rattle.live.specs.declared.standing.Standing.{Standing}
 use Rattle.live.specs.declared.standing.Standing.TheVariants as standing
 
--- How many messages of SENT are up to the front; the messages that came and were found in view; of each hart the message
--- that is undecided, if one is; and of each hart the run of lost numbers that goes on.
+-- By what payloads are compared; how many messages of SENT are up to the front; the messages that came and were found in
+-- view; of each hart the message that is undecided, if one is; and of each hart the run of lost numbers that goes on.
 pub record State : Type 0 where
+  pub by : By
   pub front : ℕ
   pub came : List Message
   pub waiting : ℕ → Option Arrived
   pub runs : ℕ → Run
 
 -- Before the first message of RECEIVED.
-abbrev pub start : State
-start = record { front = 0; came = []; waiting = λ hart. None; runs = λ hart. no_run }
+abbrev pub start : By → State
+start how = record { by = how; front = 0; came = []; waiting = λ hart. None; runs = λ hart. no_run }
 
 -- What harts have, where this one has this.
 abbrev pub with_own : {X : Type 0} → (ℕ → X) → ℕ → X → ℕ → X
@@ -56,15 +58,15 @@ is_new (finding.InOrder skips) = true
 is_new other = false
 
 -- A message in view is decided: this is found of it.
-abbrev pub finds : State → Arrived → Finding → Step
-finds state one its = record {
+abbrev pub finds : List Message → State → Arrived → Finding → Step
+finds sent state one its = record {
   state = record state { came = state.came ++ one.message ∷ [] };
-  lines = Decided one its ∷ [];
+  lines = Decided one its (changed_from sent one.message its) ∷ [];
 }
 
 -- A message is decided: it is beyond what is in view, or its hart is not known.
 abbrev pub strange : State → Arrived → Step
-strange state one = record { state = state; lines = Decided one finding.Stranger ∷ [] }
+strange state one = record { state = state; lines = Decided one finding.Stranger None ∷ [] }
 
 -- A message is undecided.
 abbrev pub waits : State → Arrived → Step
@@ -79,7 +81,7 @@ abbrev pub met : List Message → State → Message → Option Arrived → Step
 met sent state message None = stays state
 met sent state message (Some one) =
     if one.message.number == message.number then
-    finds (settles state message.hart) one (finding_of sent state.came one.message) else
+    finds sent (settles state message.hart) one (known_finding state.by sent state.came one.message) else
     stays state
 
 -- A message of SENT, and whether a true message with its hart and number is among these.
@@ -87,9 +89,9 @@ abbrev pub held : List Message → Message → SentMessage
 held trues message = record { message = message; came = has_number trues message.hart message.number }
 
 -- The last of so many messages of SENT, and whether it came, if there is one.
-abbrev pub last_held : List Message → List Message → ℕ → Option SentMessage
-last_held came sent zero = None
-last_held came sent (suc place) = option_map (held (true_ones sent came)) (slice_get sent place)
+abbrev pub last_held : By → List Message → List Message → ℕ → Option SentMessage
+last_held how came sent zero = None
+last_held how came sent (suc place) = option_map (held (known_trues how sent came)) (slice_get sent place)
 
 -- A number of this hart is given up, by the run with it.
 abbrev pub ends_run : State → ℕ → Bool → Run → Step
@@ -111,7 +113,7 @@ gives_last state (Some slot) = gives state slot
 
 -- The message that is now a window and one before the front is given up.
 abbrev pub gives_up : ℕ → List Message → State → Step
-gives_up window sent state = gives_last state (last_held state.came sent (given_up window state.front))
+gives_up window sent state = gives_last state (last_held state.by state.came sent (given_up window state.front))
 
 -- The front goes on to the next message of SENT. A message that waits for it is decided, and one more is given up.
 abbrev pub passes : ℕ → List Message → State → Message → Step
@@ -132,14 +134,14 @@ moves_to window sent front state = passes_all window sent state (drop state.fron
 -- A message in view is decided. If it is new, the front goes on to it, if it is not there yet.
 abbrev pub decides : ℕ → List Message → State → Arrived → ℕ → Finding → Step
 decides window sent state one place its =
-    and_then (finds state one its) (moves_to window sent (if is_new its then up_to window state.front place else 0))
+    and_then (finds sent state one its) (moves_to window sent (if is_new its then up_to window state.front place else 0))
 
 -- A message by where it is. What becomes of one beyond the view is handed in.
 abbrev pub judged_at : (State → Arrived → Step) → ℕ → List Message → State → Arrived → Standing → Step
 judged_at beyond window sent state one standing.Below = record { state = state; lines = TooLate one ∷ [] }
 judged_at beyond window sent state one standing.Beyond = beyond state one
 judged_at beyond window sent state one (standing.At place) =
-    decides window sent state one place (finding_of sent state.came one.message)
+    decides window sent state one place (known_finding state.by sent state.came one.message)
 
 -- Where a message is, by what is in view.
 abbrev pub standing_now : ℕ → List Message → State → Message → Standing
@@ -209,12 +211,12 @@ gives_all state (slot ∷ slots) = and_then (gives state slot) (λ next. gives_a
 -- The messages of SENT that are not given up yet are given up.
 abbrev pub gives_all_up : ℕ → List Message → State → Step
 gives_all_up window sent state =
-    gives_all state (map (held (true_ones sent state.came)) (drop (given_up window state.front) sent))
+    gives_all state (map (held (known_trues state.by sent state.came)) (drop (given_up window state.front) sent))
 
 -- The line of the message that waits, if one does: it is a stranger.
 abbrev pub strange_lines : Option Arrived → List Line
 strange_lines None = []
-strange_lines (Some one) = Decided one finding.Stranger ∷ []
+strange_lines (Some one) = Decided one finding.Stranger None ∷ []
 
 -- The lines that are left: what waits is a stranger, and no run goes on.
 abbrev pub last_lines : ℕ → State → List Line
@@ -235,6 +237,6 @@ taken_all harts window sent state place (message ∷ messages) =
     and_then (taken_of harts window sent state (record { place = place; message = message }))
     (λ next. taken_all harts window sent next (place + 1) messages)
 
--- What a live audit of SENT says of RECEIVED, where there are so many harts.
-abbrev pub live : ℕ → ℕ → List Message → List Message → List Line
-live harts window sent received = (taken_all harts window sent start 0 received).lines
+-- What a live audit of SENT says of RECEIVED, where there are so many harts, and payloads are compared by these.
+abbrev pub live : ℕ → ℕ → By → List Message → List Message → List Line
+live harts window how sent received = (taken_all harts window sent (start how) 0 received).lines

@@ -6,3 +6,5 @@ pub mod Looking
 pub mod Waiting
 pub mod Giving
 pub mod Advancing
+pub mod Counting
+pub mod Receiving

@@ -1,5 +1,6 @@
 //! Why SENT is not read.
 
+use log_streams::FileFault;
 use message::{DemuxFault, MessageFault};
 
 /// Why the next message of SENT is not read.
@@ -29,4 +30,13 @@ pub enum LookFault {
     Source(SourceFault),
     /// Its next message is not the next one of its hart.
     Sent(ReadFault),
+}
+
+/// Why RECEIVED is not read on.
+#[derive(Clone, Copy)]
+pub enum ReceivedFault {
+    /// Its file does not give its next bytes.
+    File(FileFault),
+    /// SENT is not read on, to look up a message of it.
+    Sent(LookFault),
 }

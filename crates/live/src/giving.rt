@@ -75,7 +75,7 @@ pub(crate) fn tell_waiting<L: LiveLines>(waiting: &[Option<Arrived>], lines: &mu
 {
     for waiting in waiting.iter() {
         if let Some(one) = waiting {
-            lines.decided(one, Finding::Stranger);
+            lines.decided(one, Finding::Stranger, None);
         }
     }
 }

@@ -8,7 +8,12 @@
 //!
 //! [`LiveAudit`] is what is held of both. [`LiveAudit::take`] takes the messages of RECEIVED one after the other, each an
 //! [`Arrived`], and [`LiveAudit::end`] ends the audit. They read SENT from a [`SentSource`], and hand each line to a
-//! [`LiveLines`] as soon as it is decided.
+//! [`LiveLines`] as soon as it is decided. Payloads are compared by their bytes, or by the packets that they unpack to. A
+//! [`LiveRows`] counts the lines by hart.
+//!
+//! Where RECEIVED is bytes, which may be damaged, a [`Received`] holds those that are looked at, as many as its size at most.
+//! [`LiveAudit::next_received`] returns the next message that is taken, or the next run of bytes between messages, by what
+//! is in view; SENT is read on for that.
 //!
 //! [`Window`] is what is held of SENT: at most 2N + 1 messages, in memory that [`Window::new`] takes once.
 //! [`Window::judge`] looks a message of RECEIVED up, and takes it. As long as [`Window::wants`] says so, the next message of
@@ -27,6 +32,10 @@ mod live_audit;
 mod looking;
 mod numbers;
 mod places;
+mod received;
+mod received_seen;
+mod received_taking;
+mod rows;
 mod run;
 mod slots;
 mod source;
@@ -35,13 +44,18 @@ mod waiting;
 mod window;
 
 pub use arrived::Arrived;
-pub use fault::{LookFault, ReadFault, SourceFault};
+pub use fault::{LookFault, ReadFault, ReceivedFault, SourceFault};
 pub use held::SentMessage;
 pub use judged::Judged;
-pub use laws::{untrue_messages_leave_the_front, views_are_bounded};
+pub use laws::{
+    framed_messages_are_taken, live_audits_are_bounded, live_rows_add_up,
+    untrue_messages_leave_the_front, views_are_bounded,
+};
 pub use lines::LiveLines;
 pub use live_audit::LiveAudit;
 pub use looking::look;
+pub use received::Received;
+pub use rows::{LiveRow, LiveRows};
 pub use source::SentSource;
 pub use standing::Standing;
 pub use window::{MOST_WINDOW, Window};

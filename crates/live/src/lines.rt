@@ -1,6 +1,6 @@
 //! Who is handed the lines of a live audit.
 
-ghost use Rattle.std.specs.Prelude.{◌++◌, List, [], ◌∷◌};
+ghost use Rattle.std.specs.Prelude.{◌++◌, List, [], ◌∷◌, option_map};
 ghost use Rattle.live.specs.Lines.{Line, Decided, GivenUp, Missing, TooLate};
 
 use crate::arrived::Arrived;
@@ -14,9 +14,9 @@ pub trait LiveLines {
     /// The lines that were handed over between two states.
     ghost Told: { Self → List Line → Self → Type 0 };
 
-    /// Of a message of RECEIVED this is found.
-    fn decided(&mut self, one: &Arrived, finding: Finding)
-        ensures { Told self.old (Decided one.now finding ∷ []) self.new };
+    /// Of a message of RECEIVED this is found. If it is changed, SENT has this payload, and else none is handed over.
+    fn decided(&mut self, one: &Arrived, finding: Finding, sent: Option<&[u8]>)
+        ensures { Told self.old (Decided one.now finding (option_map (λ payload. payload.now) sent.entry) ∷ []) self.new };
 
     /// A message of RECEIVED is too late.
     fn too_late(&mut self, one: &Arrived)

@@ -1,24 +1,28 @@
 //! The live audit.
 
-ghost use Rattle.std.specs.Prelude.{◌≡◌, ◌+◌, ◌<◌, ◌≤◌, ℕ, IfOk, Ok, Some, drop, length, max, min, slice_get, take};
+ghost use Rattle.std.specs.Prelude.{◌≡◌, ◌+◌, ◌<◌, ◌≤◌, ◌^◌, ℕ, IfOk, List, Ok, Some, drop, length, max, min, slice_get, take};
 ghost use Rattle.message.specs.declared.message.Message.{Message as AnyMessage};
-ghost use Rattle.live.specs.Auditing.{Ended, GoesTo, LiveHolding, Stands, Went};
+ghost use Rattle.live.specs.Auditing.{Ended, GoesTo, LiveHolding, ReadsSent, Stands, Went};
 ghost use Rattle.live.specs.Following.{Audited, IsAudited, Left, left_after};
+ghost use Rattle.live.specs.ReceivedLeft.{IsLeft, IsNextSpan};
 ghost use Rattle.live.specs.Live.{State, and_then, finished, goes_on, is_outage, judged, met, passes, passes_all};
 ghost use Rattle.live.specs.Live.{settled, start, strange, taken, taken_of, waits};
 ghost use Rattle.live.specs.steps.Advancing.{IsAsked, IsJudged, IsSettled, MakesPlace, NoneBefore, ReadsNext, ReadsOn};
 
 use crate::arrived::Arrived;
-use crate::fault::{LookFault, SourceFault};
+use crate::fault::{LookFault, ReceivedFault, SourceFault};
 use crate::giving::{give, give_all, tell_runs, tell_waiting};
 use crate::judged::Judged;
 use crate::lines::LiveLines;
 use crate::looking::{is_outage, look, next_sent, read_placed};
+use crate::received::Received;
 use crate::run::Run;
 use crate::source::SentSource;
 use crate::waiting::{none_waiting, take_met, take_waiting, wait};
 use crate::window::{MOST_WINDOW, Window};
-use auditing::Finding;
+use auditing::{By, Finding};
+use frames::Span;
+use log_streams::FileReader;
 use message::Message;
 use std::alloc::{AllocError, Allocator, Global};
 use std::marker::Model;
@@ -46,15 +50,16 @@ impl<A: Allocator> Model for LiveAudit<A> {
 
 impl<A: Allocator + Copy> LiveAudit<A> {
     /// Before the first message of RECEIVED, where this many messages of SENT may be in view before the front and after it,
-    /// and where there are so many harts. No window is as one of 1, and more than [`MOST_WINDOW`] are as many as that.
+    /// where there are so many harts, and where payloads are compared by these. No window is as one of 1, and more than
+    /// [`MOST_WINDOW`] are as many as that. By packets a message is true as by [`auditing::Audit::with`].
     ///
     /// Memory is taken once, as by [`Window::new`] and for one message and a run of each hart. No other call takes any.
-    pub fn new(alloc: A, window: u32, harts: u16) -> Result<LiveAudit<A>, AllocError>
+    pub fn new(alloc: A, window: u32, harts: u16, by: By) -> Result<LiveAudit<A>, AllocError>
         ensures { IfOk result (λ own. (all : Audited) → all.window ≡ min (max window 1) MOST_WINDOW → all.harts ≡ harts
-            → Stands all 0 start own (left_after all 0)) }
+            → all.by ≡ by → Stands all 0 (start by) own (left_after all 0)) }
     {
         Ok(LiveAudit {
-            window: Window::new(alloc, window.max(1), harts)?,
+            window: Window::new(alloc, window.max(1), harts, by)?,
             waiting: none_waiting(alloc, harts)?,
             runs: vec![in alloc; Run::NONE; usize::from(harts)]?,
         })
@@ -73,7 +78,13 @@ impl<A: Allocator> LiveAudit<A> {
             return;
         };
         match self.window.judge(&one.message) {
-            Judged::Found { finding, .. } => lines.decided(&one, finding),
+            Judged::Found { finding, .. } => {
+                lines.decided(
+                    &one,
+                    finding,
+                    self.window.changed_from(&one.message, finding),
+                )
+            }
             Judged::TooLate => {}
             Judged::Undecided => {}
         }
@@ -141,7 +152,11 @@ impl<A: Allocator> LiveAudit<A> {
             }
             Judged::Undecided => true,
             Judged::Found { finding, ahead } => {
-                lines.decided(one, finding);
+                lines.decided(
+                    one,
+                    finding,
+                    self.window.changed_from(&one.message, finding),
+                );
                 self.pass_all(ahead, lines);
                 false
             }
@@ -161,6 +176,28 @@ impl<A: Allocator> LiveAudit<A> {
             (S.left source.new) }
     {
         is_outage(&mut self.window, source, first, second)
+    }
+
+    /// The next message of RECEIVED that is taken, or the next run of bytes between messages, `None` at the end. A message is
+    /// to be taken ([`LiveAudit::take`]) before the next call. Takes no memory.
+    ///
+    /// It fails if the bytes cannot be read on, or if SENT cannot, which is read as far as a message is looked up.
+    pub fn next_received<R: FileReader, S: SentSource>(
+        &mut self,
+        received: &mut Received<A>,
+        reader: &mut R,
+        source: &mut S,
+    ) -> Result<Option<Span>, ReceivedFault>
+        ensures span { (all : Audited) (read : ℕ) (state : State) (rest : List ℕ) → IsAudited all
+            → Stands all read state self.old (S.left source.old) → IsLeft received.old (R.left reader.old) rest
+            → received.old.offset + length rest < 2 ^ 64
+            → IsNextSpan all state.front received.old rest result received.new (R.left reader.new) }
+        ensures stands { (all : Audited) (read : ℕ) (state : State) (rest : List ℕ) → IsAudited all
+            → Stands all read state self.old (S.left source.old) → IsLeft received.old (R.left reader.old) rest
+            → received.old.offset + length rest < 2 ^ 64
+            → IfOk result (λ span. (more : ℕ) × Stands all more state self.new (S.left source.new)) }
+    {
+        received.next(reader, &mut self.window, source)
     }
 
     /// If there is no place for one message more of SENT, the front goes on by one.
@@ -294,7 +331,7 @@ impl<A: Allocator> LiveAudit<A> {
     {
         match self.judge(one, source, lines) {
             Ok(true) => {
-                lines.decided(one, Finding::Stranger);
+                lines.decided(one, Finding::Stranger, None);
                 Ok(())
             }
             Ok(false) => Ok(()),
@@ -361,7 +398,7 @@ impl<A: Allocator> LiveAudit<A> {
         if usize::from(one.message.hart) < self.waiting.len() {
             return self.take_known(one, source, lines);
         }
-        lines.decided(&one, Finding::Stranger);
+        lines.decided(&one, Finding::Stranger, None);
         Ok(())
     }
 
@@ -376,6 +413,23 @@ impl<A: Allocator> LiveAudit<A> {
         give_all(self.window.slots(), &mut self.runs, lines);
         tell_waiting(&self.waiting, lines);
         tell_runs(&self.runs, lines);
+    }
+
+    /// RECEIVED has ended: reads one message more of SENT, and the lines of what the front passes are handed over. Returns
+    /// whether SENT has ended too. Takes no memory.
+    ///
+    /// [`LiveAudit::end`] reads what is left. Who hands lines on while SENT still comes calls this first, until it is `true`.
+    pub fn read_sent<S: SentSource, L: LiveLines>(
+        &mut self,
+        source: &mut S,
+        lines: &mut L,
+    ) -> Result<bool, LookFault>
+        ensures { (all : Audited) (read : ℕ) (state : State) → IsAudited all
+            → Stands all read state self.old (S.left source.old)
+            → ReadsSent all read (λ told. L.Told lines.old told lines.new) state result self.new (S.left source.new) }
+    {
+        let harts = self.waiting.len();
+        self.read_next(harts, 0, source, lines)
     }
 
     /// RECEIVED has ended: SENT is read to its end, and the lines that are left are handed over. What a call after that does

@@ -141,6 +141,7 @@ pub(crate) fn read_placed<A: Allocator>(
         → IsReadLast sent came front message hart number (length window.old.harts) window.old.window result window.new }
     ensures window { window.new.window ≡ window.old.window }
     ensures harts { length window.new.harts ≡ length window.old.harts }
+    ensures by { window.new.by ≡ window.old.by }
 {
     let is_last = is_numbered(&message, hart, number);
     match window.read(message) {

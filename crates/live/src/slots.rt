@@ -6,7 +6,8 @@ ghost use Rattle.live.specs.steps.Judging.{mark_by, slots_came};
 ghost use Rattle.live.specs.steps.Searching.{is_at};
 
 use crate::held::SentMessage;
-use auditing::Fate;
+use auditing::{By, Fate};
+use payload::same;
 use std::alloc::Allocator;
 use std::collections::VecDeque;
 
@@ -49,18 +50,19 @@ pub(crate) fn position<A: Allocator>(
 }
 
 /// The fate of a message that the one at this place has the hart and the number of and that has this payload, in order where
-/// it is late.
+/// it is late. Payloads are compared by these.
 pub(crate) fn mark<A: Allocator>(
     slots: &VecDeque<SentMessage, A>,
     place: usize,
     payload: &[u8],
+    by: By,
 ) -> Fate
-    ensures { result ≡ mark_by (slice_get slots.now.items place) payload.now }
+    ensures { result ≡ mark_by by (slice_get slots.now.items place) payload.now }
 {
     let Some(slot) = slots.get(place) else {
         return Fate::Stranger;
     };
-    if payload != slot.message.payload.bytes() {
+    if !same(slot.message.payload.bytes(), payload, by) {
         Fate::Changed
     } else if slot.came {
         Fate::Repeat

@@ -7,7 +7,7 @@ use message::Message;
 
 /// Gives the messages of SENT, one after the other.
 pub trait SentSource {
-    /// The messages that are left. After them SENT ends, or has the fault that is said there.
+    /// The messages that are left, if that is known. After them SENT ends, or has the fault that is said there.
     ghost left: { Self → Left };
 
     /// The next message, `None` where SENT has ended.

@@ -1,10 +1,13 @@
 //! What is held of SENT.
 
-ghost use Rattle.std.specs.Prelude.{◌≡◌, ◌+◌, ◌-◌, ◌*◌, ◌<◌, ◌≤◌, ◌++◌, ℕ, IfErr, IfNone, IfOk, IfSome, List, [], ◌∷◌, OnErr, OnOk, None, false, not, true};
-ghost use Rattle.std.specs.Prelude.{length, min, nat_lt, slice_get};
+ghost use Rattle.std.specs.Prelude.{◌≡◌, ◌+◌, ◌-◌, ◌*◌, ◌<◌, ◌≤◌, ◌++◌, ℕ, IfErr, IfNone, IfOk, IfSome, List, [], ◌∷◌};
+ghost use Rattle.std.specs.Prelude.{OnErr, OnOk, None, false, not, true};
+ghost use Rattle.std.specs.Prelude.{length, min, nat_lt, option_map, slice_get};
 ghost use Rattle.std.specs.VecDeque.{deque_capacity};
 ghost use Rattle.message.specs.declared.message.Message.{Message as AnyMessage};
 ghost use Rattle.auditing.specs.Sent.{AreInTurn};
+ghost use Rattle.auditing.specs.SentPayload.{payload_sent};
+ghost use Rattle.live.specs.Compared.{changed_from};
 ghost use Rattle.live.specs.Holding.{Holding};
 ghost use Rattle.live.specs.Holds.{Holds, IsReadFault, IsWithin, came_by, is_wanted, judged_as, judged_by};
 ghost use Rattle.live.specs.Live.{are_near, last_held};
@@ -22,7 +25,7 @@ use crate::numbers::{Numbers, count_read, count_true, give_up, new_finding, refu
 use crate::places::Places;
 use crate::slots::{mark, position, set_came};
 use crate::standing::Standing;
-use auditing::{Fate, Finding};
+use auditing::{By, Fate, Finding};
 use message::Message;
 use std::alloc::{AllocError, Allocator, Global};
 use std::collections::VecDeque;
@@ -35,6 +38,8 @@ pub const MOST_WINDOW: u32 = 16_777_216;
 /// are given up.
 #[derive(Drop)]
 pub struct Window<A: Allocator = Global> {
+    /// By what payloads are compared.
+    by: By,
     /// How many messages may be in view before the front, and how many after it.
     window: usize,
     /// How many messages in view are up to the front.
@@ -51,6 +56,7 @@ impl<A: Allocator> Model for Window<A> {
     ghost Value = { Holding };
 
     ghost view = { λ w. record {
+      by = w.by;
       window = w.window;
       near = w.near;
       slots = w.slots.items;
@@ -63,16 +69,19 @@ impl<A: Allocator> Model for Window<A> {
 
 impl<A: Allocator + Copy> Window<A> {
     /// What is held before the first message of SENT is read, where this many messages may be in view before the front and
-    /// after it, and where there are so many harts. More than [`MOST_WINDOW`] are as many as that.
+    /// after it, where there are so many harts, and where payloads are compared by these. More than [`MOST_WINDOW`] are as
+    /// many as that.
     ///
     /// Memory is taken once: at most 64 bytes for each message that may be in view, and 56 for each hart. No other call takes any.
-    pub fn new(alloc: A, window: u32, harts: u16) -> Result<Window<A>, AllocError>
+    pub fn new(alloc: A, window: u32, harts: u16, by: By) -> Result<Window<A>, AllocError>
         ensures window { IfOk result (λ own. own.window ≡ min window MOST_WINDOW) }
         ensures harts { IfOk result (λ own. length own.harts ≡ harts) }
+        ensures by { IfOk result (λ own. own.by ≡ by) }
         ensures holds { IfOk result (λ own. Holds [] [] 0 own) }
     {
         let window = window.min(MOST_WINDOW) as usize;
         Ok(Window {
+            by,
             window,
             near: 0,
             slots: VecDeque::with_capacity(alloc, 2 * window + 1)?,
@@ -90,6 +99,13 @@ impl<A: Allocator> Window<A> {
     {
         let _ = &self.window;
         self.slots.len()
+    }
+
+    /// Whether a hart is below their count.
+    pub(crate) fn is_known(&self, hart: u16) -> bool
+        ensures { result ≡ nat_lt hart (length self.now.harts) }
+    {
+        usize::from(hart) < self.harts.len()
     }
 
     /// Where a number of a hart is, by what was read of SENT.
@@ -194,6 +210,13 @@ impl<A: Allocator> Window<A> {
         number != other && number.abs_diff(other) <= self.window as u64
     }
 
+    /// By what payloads are compared.
+    pub(crate) fn by(&self) -> By
+        ensures { result ≡ self.now.by }
+    {
+        self.by
+    }
+
     /// The messages that are held.
     pub(crate) fn slots(&self) -> &VecDeque<SentMessage, A>
         ensures { result.now.items ≡ self.now.slots }
@@ -213,6 +236,7 @@ impl<A: Allocator> Window<A> {
         ensures kept { OnErr result (self.new ≡ self.old) }
         ensures window { self.new.window ≡ self.old.window }
         ensures harts { length self.new.harts ≡ length self.old.harts }
+        ensures by { self.new.by ≡ self.old.by }
     {
         self.add(message)
     }
@@ -238,19 +262,19 @@ impl<A: Allocator> Window<A> {
         Ok(())
     }
 
-    /// Looks up a message of RECEIVED, and takes it if it is in view. Payloads are compared by their bytes. The front stays.
-    /// Takes no memory.
+    /// Looks up a message of RECEIVED, and takes it if it is in view. The front stays. Takes no memory.
     ///
     /// A message of a hart that is not below the count is `Undecided`: the caller reports it as a stranger.
     pub fn judge(&mut self, message: &Message) -> Judged
         ensures judged { (sent came : List AnyMessage) (front : ℕ) → Holds sent came front self.old
-            → result ≡ judged_by self.old.window sent came front message.now
+            → result ≡ judged_by self.old.by self.old.window sent came front message.now
             (standing_of self.old.window sent front message.now.hart message.now.number) }
         ensures taken { (sent came : List AnyMessage) (front : ℕ) → Holds sent came front self.old
             → Holds sent (came_by came message.now
             (standing_of self.old.window sent front message.now.hart message.now.number)) front self.new }
         ensures window { self.new.window ≡ self.old.window }
         ensures harts { length self.new.harts ≡ length self.old.harts }
+        ensures by { self.new.by ≡ self.old.by }
     {
         match self.find(message.hart, message.number) {
             Standing::Below => Judged::TooLate,
@@ -262,6 +286,33 @@ impl<A: Allocator> Window<A> {
         }
     }
 
+    /// The payload that SENT has with the hart and the number of a message, if that is changed.
+    pub(crate) fn changed_from(&self, message: &Message, finding: Finding) -> Option<&[u8]>
+        ensures { (sent came : List AnyMessage) (front place : ℕ) → Holds sent came front self.now
+            → standing_of self.now.window sent front message.now.hart message.now.number ≡ Standing.At place
+            → option_map (λ payload. payload.now) result ≡ changed_from sent message.now finding }
+    {
+        match finding {
+            Finding::Changed => self.payload(message.hart, message.number),
+            _ => None,
+        }
+    }
+
+    /// The payload of a message of this hart and this number in view, if there is one.
+    fn payload(&self, hart: u16, number: u64) -> Option<&[u8]>
+        ensures { (sent came : List AnyMessage) (front place : ℕ) → Holds sent came front self.now
+            → standing_of self.now.window sent front hart number ≡ Standing.At place
+            → option_map (λ payload. payload.now) result ≡ payload_sent sent hart number }
+    {
+        match self.position(hart, number) {
+            Some(place) => match self.slots.get(place) {
+                Some(slot) => Some(slot.message.payload.bytes()),
+                None => None,
+            },
+            None => None,
+        }
+    }
+
     /// Takes a message that is in view at this place.
     fn take(&mut self, place: usize, message: &Message) -> Finding
         ensures finding { result ≡ found_by (mark_at self.old place message.now.payload)
@@ -270,7 +321,7 @@ impl<A: Allocator> Window<A> {
             (mark_at self.old place message.now.payload) }
     {
         self.places.note(message.hart, message.number, place);
-        match mark(&self.slots, place, message.payload.bytes()) {
+        match mark(&self.slots, place, message.payload.bytes(), self.by) {
             Fate::InOrder => {
                 let finding = new_finding(self.harts.as_slice(), message.hart, message.number);
                 set_came(&mut self.slots, place);
@@ -299,11 +350,12 @@ impl<A: Allocator> Window<A> {
         ensures passed { (sent came : List AnyMessage) (front : ℕ) → Holds sent came front self.old
             → front < length sent → Holds sent came (front + 1) self.new }
         ensures given { (sent came : List AnyMessage) (front : ℕ) → Holds sent came front self.old
-            → front < length sent → result ≡ last_held came sent (given_up self.old.window (front + 1)) }
+            → front < length sent → result ≡ last_held self.old.by came sent (given_up self.old.window (front + 1)) }
         ensures end { (sent came : List AnyMessage) (front : ℕ) → Holds sent came front self.old
             → front ≡ length sent → (self.new ≡ self.old) × (result ≡ None) }
         ensures window { self.new.window ≡ self.old.window }
         ensures harts { length self.new.harts ≡ length self.old.harts }
+        ensures by { self.new.by ≡ self.old.by }
     {
         self.go_on()
     }

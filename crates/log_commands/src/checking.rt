@@ -25,6 +25,7 @@ use explaining::explain_row;
 use log_streams::{Files, IllegalRow, MadeLogs, made_of_logs};
 use message::MOST_HARTS;
 use output::write_text;
+use retire::WriteFault;
 use rvclass::Program;
 use std::alloc::Global;
 use std::io::Write;
@@ -119,7 +120,7 @@ where
     files.end_progress();
     let status = match write_logs(input, paths, verdicts.as_slice(), asked.explain, out) {
         Ok(status) => status,
-        Err(why) => return Err(why),
+        Err(_) => return Err(Fault::Output),
     };
     match end {
         Ok(()) => Ok(status),
@@ -129,15 +130,14 @@ where
 
 /// Writes the lines of the logs at the first of these paths, by the verdicts on them, in order, and returns how a run
 /// of these logs ends.
-fn write_logs<'a, O: Write>(
+fn write_logs<O: Write>(
     input: &Input,
     paths: &[&str],
     verdicts: &[Result<usize, IllegalRow>],
     explain: bool,
     out: &mut O,
-) -> Result<Status, Fault<'a>>
+) -> Result<Status, WriteFault>
     requires { length verdicts.now ≤ length paths.now }
-    ensures fault { IfErr result (λ fault. fault ≡ Fault.Output) }
     ensures ended { IfOk result (λ status. status ≡ status_with (list_any is_refused verdicts.now)) }
     ensures text { OnOk result (Appends (O.contents out.old) (O.contents out.new)
         (all_lines explain (input_in input.now) paths.now verdicts.now)) }
@@ -157,14 +157,13 @@ fn write_logs<'a, O: Write>(
 
 /// Writes the lines of a log: whether it is legal, and below that what explains its first illegal row, if it has one
 /// and that is asked for.
-fn write_lines<'a, O: Write>(
+fn write_lines<O: Write>(
     input: &Input,
     path: &str,
     verdict: &Result<usize, IllegalRow>,
     explain: bool,
     out: &mut O,
-) -> Result<(), Fault<'a>>
-    ensures fault { IfErr result (λ fault. fault ≡ Fault.Output) }
+) -> Result<(), WriteFault>
     ensures text { OnOk result (Appends (O.contents out.old) (O.contents out.new)
         (verdict_lines explain (input_in input.now) path.now verdict.now)) }
     ensures begun { AppendsBeginning (verdict_lines explain (input_in input.now) path.now verdict.now)
@@ -178,14 +177,13 @@ fn write_lines<'a, O: Write>(
 }
 
 /// Writes the lines of an illegal log: its first illegal row, and below that what explains it, if that is asked for.
-fn write_illegal<'a, O: Write>(
+fn write_illegal<O: Write>(
     input: &Input,
     path: &str,
     row: &IllegalRow,
     explain: bool,
     out: &mut O,
-) -> Result<(), Fault<'a>>
-    ensures fault { IfErr result (λ fault. fault ≡ Fault.Output) }
+) -> Result<(), WriteFault>
     ensures text { OnOk result (Appends (O.contents out.old) (O.contents out.new)
         (illegal_lines explain (input_in input.now) path.now row.now)) }
     ensures begun { AppendsBeginning (illegal_lines explain (input_in input.now) path.now row.now)
@@ -197,13 +195,12 @@ fn write_illegal<'a, O: Write>(
 }
 
 /// Writes the line that explains the first illegal row of a log, if that is asked for.
-fn write_explanation<'a, O: Write>(
+fn write_explanation<O: Write>(
     input: &Input,
     row: &IllegalRow,
     explain: bool,
     out: &mut O,
-) -> Result<(), Fault<'a>>
-    ensures fault { IfErr result (λ fault. fault ≡ Fault.Output) }
+) -> Result<(), WriteFault>
     ensures text { OnOk result (Appends (O.contents out.old) (O.contents out.new)
         (row_line explain (input_in input.now) row.now)) }
     ensures begun { AppendsBeginning (row_line explain (input_in input.now) row.now) (O.contents out.old) (O.contents out.new) }
@@ -211,15 +208,12 @@ fn write_explanation<'a, O: Write>(
     if !explain {
         return Ok(());
     }
-    match explain_row(
+    explain_row(
         &input.program,
         row.before,
         &row.event,
         row.fault,
         input.symbols.as_ref(),
         out,
-    ) {
-        Ok(()) => Ok(()),
-        Err(_) => Err(Fault::Output),
-    }
+    )
 }

@@ -4,6 +4,7 @@ use Rattle.std.proofs.Common.{sym, ap, subst, arith, inl, inr, slice_get, slice_
 use Rattle.std.proofs.lemmas.List.{length-map}
 use Rattle.std.proofs.lemmas.Option.{slice_get-get_or}
 use Rattle.std.specs.Borrow.{Bor}
+use Rattle.std.specs.Prelude.{IfErr}
 use Rattle.retire.specs.declared.fault.LogFault.TheVariants.{Memory}
 use Rattle.log_streams.specs.Made.{AreMadeBy}
 use Rattle.log_streams.specs.Refusing.{MayStop}
@@ -31,6 +32,36 @@ pub at-index : {A : Type 0} (all : List A) (n i : ℕ) (other : A) → i ≡ n �
     → slice_get all n ≡ Some (slice_index_or all i other)
 at-index all n i other same few =
     slice_get-get_or all n other few ∙ ap (λ i. Some (slice_index_or all i other)) (sym same)
+
+module _ (paths : List (Bor (List ℕ))) (end : Result (Unit {0}) LogsFault)
+    (fault : IfErr end (λ fault. (slice_get paths 0 ≡ Some fault.path) × (fault.why ≡ stop.Unread Memory))) where
+  -- Nothing was made of any log, since an allocation failed.
+  pub none-made-of : {X : Type 0} (IsMade : List ℕ → ℕ → Result X Stop → Type 0) → MayBeDenied IsMade → (made : List X)
+      → made ≡ [] → (end ≡ Ok tt → length paths ≡ 0) → AreMadeBy IsMade paths made end
+  none-made-of IsMade denied [] none all = record {
+    few = omega arith;
+    each = λ hart path one at is. cc is;
+    all = λ done. sym (all done);
+    fault = go end fault;
+  }
+    where
+      go : (end : Result (Unit {0}) LogsFault)
+          → IfErr end (λ fault. (slice_get paths 0 ≡ Some fault.path) × (fault.why ≡ stop.Unread Memory))
+          → IfErr end (λ fault. (slice_get paths 0 ≡ Some fault.path) × IsMade fault.path.now 0 (Err fault.why))
+      go (Ok done) h = tt
+      go (Err fault) h =
+          (h.0, subst (λ why. IsMade fault.path.now 0 (Err why)) (sym h.1) (denied fault.path.now 0))
+  none-made-of IsMade denied (one ∷ made) none all = cc none
+
+  -- So no log was refused.
+  pub none-refused : (MayRefuse : Type 0) → IfErr end (λ fault. MayStop MayRefuse fault.why)
+  none-refused MayRefuse = go end fault
+    where
+      go : (end : Result (Unit {0}) LogsFault)
+          → IfErr end (λ fault. (slice_get paths 0 ≡ Some fault.path) × (fault.why ≡ stop.Unread Memory))
+          → IfErr end (λ fault. MayStop MayRefuse fault.why)
+      go (Ok done) h = tt
+      go (Err fault) h = subst (MayStop MayRefuse) (sym h.1) tt
 
 module _ {X : Type 0} (IsMade : List ℕ → ℕ → Result X Stop → Type 0) (denied : MayBeDenied IsMade) (MayRefuse : Type 0)
     (paths : List (Bor (List ℕ))) (all : List (Option (Result X Stop))) (count : length all ≡ length paths)

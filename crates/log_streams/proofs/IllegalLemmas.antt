@@ -1,6 +1,6 @@
 -- Where the first illegal row of a log is.
 use Rattle.std.proofs.Common.{◌≡◌, ◌+◌, ◌-◌, ◌≤◌, ◌<◌, ◌++◌, ◌∙◌, ℕ, List, [], ◌∷◌, Option, Some, None, length, slice_get, suc, zero}
-use Rattle.std.proofs.Common.{refl, sym, ap, subst, arith}
+use Rattle.std.proofs.Common.{refl, sym, ap, append_assoc, subst, arith}
 use Rattle.std.proofs.lemmas.List.{length-append}
 use Rattle.std.specs.List.{last_or}
 use Rattle.legalpath.proofs.FollowOnLemmas.{last_or-append}
@@ -9,6 +9,7 @@ use Rattle.legalpath.specs.declared.fault.PathFault.{PathFault}
 use Rattle.retire.specs.declared.event.Event.{Event}
 use Rattle.rvclass.specs.Words.{Words}
 use Rattle.log_streams.specs.Illegal.{IsIllegalRow}
+use Rattle.log_streams.specs.declared.illegal_row.IllegalRow.{IllegalRow}
 use Rattle.log_streams.specs.steps.Judging.{before_at}
 
 -- The front of a log is these events and the first ones of a piece.
@@ -128,3 +129,29 @@ illegal-row words seen piece fault rows place before after event last count f mo
     subst (λ after. IsIllegalRow words (seen ++ piece) (record { fault = fault; before = after; event = event }))
     (sym (is-before ∙ ap (λ before. before_at before piece place) last))
     (illegal-in words seen piece fault place event f (row-is fault.row rows (length seen) place count more is) at)
+
+-- The first illegal row of some events is that of all events that go on after them.
+pub illegal-further : (words : Words) (seen more : List Event) (row : IllegalRow) → IsIllegalRow words seen row
+    → IsIllegalRow words (seen ++ more) row
+illegal-further words seen more row is = record {
+  front = is.front;
+  rest = is.rest ++ more;
+  whole = ap (λ events. events ++ more) is.whole ∙ append_assoc is.front (row.event ∷ is.rest) more;
+  legal = is.legal;
+  before = is.before;
+  counted = is.counted;
+  reason = is.reason;
+}
+
+-- Its fault is the first of the log.
+pub illegal-fault : (words : Words) (events : List Event) (row : IllegalRow) (fault : PathFault)
+    → IsIllegalRow words events row → fault ≡ row.fault → IsFirstFault words events fault
+illegal-fault words events row fault is same = subst (IsFirstFault words events) (sym same) (record {
+  front = is.front;
+  event = row.event;
+  rest = is.rest;
+  whole = is.whole;
+  legal = is.legal;
+  counted = is.counted;
+  reason = is.reason;
+})

@@ -1,9 +1,12 @@
 -- What is known of logs, by their places.
 use Rattle.std.proofs.Common.{◌≡◌, ◌+◌, ◌++◌, ℕ, List, [], ◌∷◌, Option, Some, None, Result, Ok, Err, All, map}
-use Rattle.std.proofs.Common.{slice_get, set, length, sym, subst, arith, suc, zero}
-use Rattle.std.proofs.lemmas.List.Elements.{All-head, All-tail}
+use Rattle.std.proofs.Common.{◌∙◌, ap, append_assoc, false, if◌then◌else◌, refl, slice_get, set, length, sym, subst}
+use Rattle.std.proofs.Common.{arith, suc, true≢false, zero}
+use Rattle.std.proofs.lemmas.List.{length_push, map-append}
+use Rattle.std.proofs.lemmas.List.Elements.{All-head, All-nil, All-push, All-tail}
+use Rattle.std.specs.Result.{is_err, is_ok}
 use Rattle.log_streams.specs.declared.stop.Stop.{Stop}
-use Rattle.log_streams.specs.steps.Places.{AreAllowedFrom, was_made}
+use Rattle.log_streams.specs.steps.Places.{AreAllowedFrom, IsTakenUpTo, was_made}
 
 next : (n i : ℕ) → n + suc i ≡ (n + 1) + i
 next n i = omega arith
@@ -16,6 +19,37 @@ first-place i = omega arith
 
 some-same : {A : Type 0} (x y : A) → Some x ≡ Some y → x ≡ y
 some-same x y same = cc same
+
+-- In a list of no log nothing is known of each.
+pub none-of-none : {X : Type 0} (all : List (Option (Result X Stop))) → all ≡ []
+    → (length all ≡ 0) × All (λ one. one ≡ None) all
+none-of-none all is = (ap length is, subst (All (λ one. one ≡ None)) (sym is) (All-nil (λ one. one ≡ None)))
+
+-- Nor is it in one with one log more.
+pub none-of-more : {X : Type 0} (all more : List (Option (Result X Stop))) (count : ℕ) → length all ≡ count
+    → All (λ one. one ≡ None) all → more ≡ all ++ None ∷ [] → (length more ≡ count + 1) × All (λ one. one ≡ None) more
+none-of-more all more count counted none is = (
+  ap length is ∙ length_push all None ∙ ap (λ n. n + 1) counted,
+  subst (All (λ one. one ≡ None)) (sym is) (All-push (λ one. one ≡ None) all None none refl),
+)
+
+-- No log was taken yet.
+pub taken-none : {X : Type 0} (all rest : List (Option (Result X Stop))) (made : List X) → rest ≡ all → made ≡ []
+    → IsTakenUpTo all rest made
+taken-none all rest made same none = subst (λ made. all ≡ map was_made made ++ rest) (sym none) (sym same)
+
+-- And then one more, where it was added to the list.
+pub taken-more : {X E : Type 0} (all rest left : List (Option (Result X Stop))) (made more : List X)
+    (one : Option (Result X Stop)) (thing : X) (pushed : Result (Unit {0}) E) → IsTakenUpTo all rest made
+    → rest ≡ one ∷ left → one ≡ Some (Ok thing) → more ≡ (if is_ok pushed then made ++ thing ∷ [] else made)
+    → is_err pushed ≡ false → IsTakenUpTo all left more
+taken-more all rest left made more one thing (Ok done) whole next is added fine =
+    whole
+    ∙ ap (λ rest. map was_made made ++ rest) (next ∙ ap (λ one. one ∷ left) is)
+    ∙ sym (append_assoc (map was_made made) (was_made thing ∷ []) left)
+    ∙ ap (λ front. front ++ left) (sym (map-append was_made made (thing ∷ [])))
+    ∙ ap (λ made. map was_made made ++ left) (sym added)
+taken-more all rest left made more one thing (Err why) whole next is added fine = absurd (true≢false fine)
 
 module _ {X : Type 0} (Allows : ℕ → Result X Stop → Type 0) where
   -- Where nothing is known, all is allowed.

@@ -1,5 +1,6 @@
 -- What is read of a log, piece by piece.
-use Rattle.std.proofs.Common.{◌≡◌, ◌++◌, ◌∙◌, ℕ, List, [], Option, Result, Ok, Err, ap, append-nil, inl, inr}
+use Rattle.std.proofs.Common.{◌≡◌, ◌++◌, ◌∙◌, ℕ, List, [], Option, Result, Ok, Err, ap, append-nil, append_assoc, inl}
+use Rattle.std.proofs.Common.{inr}
 use Rattle.std.proofs.Common.{refl, subst, sym}
 use Rattle.retire.specs.HasRead.{GoesOn, HasRead}
 use Rattle.retire.specs.declared.event.Event.{Event}
@@ -21,6 +22,15 @@ module _ {S : Type 0} (given : S → List ℕ) (left : S → Option (List ℕ)) 
   piece-read seen before after reader none on =
       subst (λ events. HasRead given left most (seen ++ events) reader)
       (sym (on.appended ∙ ap (λ events. events ++ on.piece) none)) on.read
+
+  -- The events of a piece were read after those that were read before.
+  pub read-further : (seen more before after : List Event) (reader : LogReader S) → before ≡ []
+      → GoesOn given left most (seen ++ more) before after reader → HasReadOn given left most seen reader
+  read-further seen more before after reader none on = (
+    more ++ after,
+    subst (λ events. HasRead given left most events reader) (append_assoc seen more after)
+        (piece-read (seen ++ more) before after reader none on),
+  )
 
   -- What is made of all events of a log is made of the log.
   pub finished-log : {X : Type 0} (Makes : ℕ → List Event → X → Type 0) (OfIllegal : List Event → IllegalRow → X → Type 0)

@@ -1,6 +1,6 @@
 //! From the messages of several harts to what is left of each hart's log.
 
-ghost use Rattle.std.specs.Prelude.{ℕ, ◌≡◌, ◌⊎◌, All, List, IsOk, IfErr, IfOk, OnOk, length};
+ghost use Rattle.std.specs.Prelude.{ℕ, ◌≡◌, ◌⊎◌, List, IsOk, IfErr, IfOk, MatchResult, OnOk, length};
 ghost use Rattle.rvclass.specs.Fetch.{words_of};
 ghost use Rattle.legalpath.specs.ProgramLog.{ProgramLog};
 ghost use Rattle.payload.specs.declared.mode.Mode.{Mode as AnyMode};
@@ -10,9 +10,8 @@ ghost use Rattle.losses.specs.Collected.{AreCollected};
 ghost use Rattle.losses.specs.Losses.{AreOfLogs};
 ghost use Rattle.losses.specs.Stops.{AreAcceptedLossy, CollectingStopsBy};
 ghost use Rattle.losses.specs.DescribedParts.{AreDescribed};
-ghost use Rattle.losses.specs.steps.Collecting.{AreEnded, IsNewPieces, IsNewTrace, IsNotCollected, IsNotTaken};
-ghost use Rattle.losses.specs.steps.Taking.{Collects, HasEachHart, IsNewCollection};
-ghost use Rattle.losses.specs.steps.Taking.{CollectsMessage};
+ghost use Rattle.losses.specs.steps.Collecting.{AreEnded, IsNotCollected, IsNotTaken};
+ghost use Rattle.losses.specs.steps.Taking.{CollectsMessage, HasCollected, HasEachHart, IsNewCollection};
 
 use crate::fault::LossyFault;
 use crate::hart_trace::HartTrace;
@@ -22,39 +21,6 @@ use message::{Demux, Message, NoProgress, ProgressSink};
 use payload::Mode;
 use rvclass::ProgramOver;
 use std::alloc::{AllocError, Allocator};
-
-/// A new trace for each of so many harts: nothing is under way.
-fn new_traces<A: Allocator + Copy>(
-    alloc: A,
-    count: usize,
-) -> Result<Vec<HartTrace<A>, A>, AllocError>
-    ensures count { IfOk result (λ traces. length traces.items ≡ count) }
-    ensures new { IfOk result (λ traces. All IsNewTrace traces.items) }
-{
-    let mut traces = Vec::with_capacity(alloc, count)?;
-    for _ in 0..count {
-        traces.push_reserved(HartTrace::new(alloc));
-    }
-    Ok(traces)
-}
-
-/// New pieces for each of so many harts: there is no part, and the hart is not closed.
-fn new_pieces<A: Allocator + Copy>(
-    alloc: A,
-    count: usize,
-) -> Result<Vec<HartPieces<A>, A>, AllocError>
-    ensures count { IfOk result (λ pieces. length pieces.items ≡ count) }
-    ensures new { IfOk result (λ pieces. All IsNewPieces pieces.items) }
-{
-    let mut pieces = Vec::with_capacity(alloc, count)?;
-    for _ in 0..count {
-        pieces.push_reserved(HartPieces {
-            parts: Vec::new(alloc),
-            closed: false,
-        });
-    }
-    Ok(pieces)
-}
 
 /// The fault for a message at this place whose packet the decoder refuses with this fault.
 fn fault_at(place: usize, fault: DecodeFault) -> LossyFault
@@ -83,10 +49,20 @@ impl<A: Allocator + Copy> Collection<A> {
         ensures { IfOk result (IsNewCollection harts) }
     {
         let count = usize::from(harts);
+        let demux = Demux::new(alloc, harts)?;
+        let mut traces = Vec::with_capacity(alloc, count)?;
+        let mut pieces = Vec::with_capacity(alloc, count)?;
+        for _ in 0..count {
+            let trace = HartTrace::new(alloc);
+            let parts = Vec::new(alloc);
+            let closed = false;
+            traces.push_reserved(trace);
+            pieces.push_reserved(HartPieces { parts, closed });
+        }
         Ok(Collection {
-            demux: Demux::new(alloc, harts)?,
-            traces: new_traces(alloc, count)?,
-            pieces: new_pieces(alloc, count)?,
+            demux,
+            traces,
+            pieces,
         })
     }
 
@@ -131,11 +107,8 @@ fn take_all<A: Allocator + Copy, V: ProgressSink>(
     messages: &[Message],
     watch: &V,
 ) -> Result<Collection<A>, LossyFault>
-    ensures of_any { IfOk result (Collects program.now mode messages.now) }
-    ensures each_hart { IfOk result HasEachHart }
-    ensures count { IfOk result (λ collection. length collection.demux ≡ harts) }
-    ensures accepted { OnOk result (AreAcceptedLossy (newcomers harts) messages.now) }
-    ensures stops { IfErr result (λ fault. CollectingStopsBy (words_of program.now) mode harts messages.now fault) }
+    ensures { MatchResult result (HasCollected program.now mode harts messages.now)
+        (CollectingStopsBy (words_of program.now) mode harts messages.now) }
 {
     let mut collection = Collection::new(alloc, harts)?;
     for (place, message) in messages.iter().enumerate() {

@@ -1,8 +1,9 @@
 //! What a window of SENT finds of messages that come (`live`).
 
-ghost use Rattle.std.specs.Prelude.{None};
+ghost use Rattle.std.specs.Prelude.{None, true};
 
 use crate::audits::messages_in;
+use crate::paths::by_of;
 use cases::Case;
 use live::{Judged, SentMessage, SentSource, SourceFault, Window, look};
 use message::Message;
@@ -15,7 +16,7 @@ pub(crate) struct Listed {
 }
 
 impl SentSource for Listed {
-    ghost left = { λ own. record { messages = own.left.items; ending = None } };
+    ghost left = { λ own. record { known = true; messages = own.left.items; ending = None } };
 
     fn next(&mut self) -> Result<Option<Message>, SourceFault> {
         match self.left.pop_front() {
@@ -68,7 +69,8 @@ fn take(case: &mut Case<'_>, window: &mut Window, message: &Message) {
 pub(crate) fn window(case: &mut Case<'_>) {
     let count = case.small("window", 0);
     let harts = case.small("harts", 2);
-    let window = Window::new(case.alloc, u32::from(count), harts);
+    let by = by_of(case);
+    let window = Window::new(case.alloc, u32::from(count), harts, by);
     let Some(mut window) = case.granted(window) else {
         return;
     };

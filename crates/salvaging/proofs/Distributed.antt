@@ -8,7 +8,8 @@ use Rattle.std.proofs.lemmas.List.{append-nil, length-map, length-set, take_more
 use Rattle.std.proofs.lemmas.List.Elements.{filter-append}
 use Rattle.std.proofs.lemmas.Option.{slice_get_within}
 use Rattle.std.specs.Prelude.{◌≢◌, ◌==◌, cond}
-use Rattle.std.specs.List.{filter}
+use Rattle.std.specs.List.{AllClonesOf, AllZip, filter}
+use Rattle.std.specs.Vec.{vec_len}
 use Rattle.std.specs.declared.vec.Vec.{Vec}
 use Rattle.message.specs.OfHart.{of_hart}
 use Rattle.message.specs.declared.message.Message.{Message}
@@ -64,6 +65,11 @@ own-append hart xs ys =
     ap (filter has_number) (filter-append (λ (message : Message). message.hart == hart) xs ys)
     ∙ filter-append has_number (of_hart hart xs) (of_hart hart ys)
 
+zipped_none : (Clones : ReceivedMessage → ReceivedMessage → Type 0) (items : List ReceivedMessage)
+    → AllZip Clones [] items → items ≡ []
+zipped_none Clones [] zipped = refl
+zipped_none Clones (x ∷ items) zipped = absurd zipped
+
 module _ {A : Type 0} where
   same_list : (list other : Vec ReceivedMessage A) → Some list ≡ Some other → list ≡ other
   same_list list other is = cc
@@ -112,6 +118,33 @@ module _ {A : Type 0} where
         (sym (own_other hart message is.0)))
         (slice_get-set lists message.hart new hart after at_after);
   }
+
+  -- Clones of a list without an item have none.
+  none_at : (Clones : ReceivedMessage → ReceivedMessage → Type 0) (one : Vec ReceivedMessage A)
+      (lists : List (Vec ReceivedMessage A)) → one.items ≡ []
+      → AllClonesOf (λ v w. AllZip Clones v.items w.items × (vec_len w ≡ vec_len v)) one lists
+      → (hart : ℕ) (list : Vec ReceivedMessage A) → slice_get lists hart ≡ Some list → list.items ≡ []
+  none_at Clones one [] none clones hart list at = cc
+  none_at Clones one (first ∷ lists) none (is, more) zero list at =
+      ap (λ (v : Vec ReceivedMessage A). v.items) (sym (same_list first list at))
+      ∙ ⊎_elim (λ (same : first ≡ one). ap (λ (v : Vec ReceivedMessage A). v.items) same ∙ none)
+      (λ (clone : AllZip Clones one.items first.items × (vec_len first ≡ vec_len one)).
+      zipped_none Clones first.items (subst (λ l. AllZip Clones l first.items) none clone.0)) is
+  none_at Clones one (first ∷ lists) none (is, more) (suc hart) list at =
+      none_at Clones one lists none more hart list at
+
+  -- So nothing is distributed to them yet.
+  pub distributes_none : (Clones : ReceivedMessage → ReceivedMessage → Type 0) (messages : List Message)
+      (one : Vec ReceivedMessage A) (lists : List (Vec ReceivedMessage A)) → one.items ≡ []
+      → AllClonesOf (λ v w. AllZip Clones v.items w.items × (vec_len w ≡ vec_len v)) one lists
+      → Distributes (take 0 messages) lists
+  distributes_none Clones messages one lists none clones = record {
+    each = λ hart list at. ap arrivals_in (none_at Clones one lists none clones hart list at) ∙ nothing hart messages;
+  }
+    where
+      nothing : (hart : ℕ) (ms : List Message) → [] ≡ placed_from 0 (own_messages hart (take 0 ms))
+      nothing hart [] = refl
+      nothing hart (m ∷ ms) = refl
 
   -- One message more is distributed.
   pub distributes_more : (messages : List Message) (i : ℕ) (message : Message) (old new : List (Vec ReceivedMessage A))

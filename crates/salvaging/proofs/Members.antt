@@ -1,5 +1,6 @@
 -- Which elements a list contains, by recursion over it.
-use Rattle.std.proofs.Common.{◌≡◌, ◌⊎◌, inl, inr, ℕ, ◌++◌, List, [], ◌∷◌, All, Contains, refl, sym, subst}
+use Rattle.std.proofs.Common.{◌≡◌, ◌⊎◌, inl, inr, ℕ, suc, ◌++◌, List, [], ◌∷◌, All, Contains, length, refl, sym}
+use Rattle.std.proofs.Common.{subst, ◌∙◌, arith}
 use Rattle.std.proofs.lemmas.List.Elements.{All-contains, All-cons, All-nil, All-weaker, Contains-append_right}
 use Rattle.std.proofs.lemmas.List.Elements.{Contains-append_left, Contains-push}
 use Rattle.losses.specs.WholeStretches.{NumberCame}
@@ -29,19 +30,39 @@ contains_of_in (y ∷ xs) x (inl is) =
     Contains-append_left (y ∷ []) xs x (subst (Contains (y ∷ [])) (sym is) (Contains-push [] y))
 contains_of_in (y ∷ xs) x (inr one) = Contains-append_right (y ∷ []) xs x (contains_of_in xs x one)
 
+-- The others, without one that is among them.
+abbrev pub without_one : {X : Type 0} (x : X) (xs : List X) → IsIn x xs → List X
+without_one x [] one = absurd one
+without_one x (y ∷ xs) (inl is) = xs
+without_one x (y ∷ xs) (inr one) = y ∷ without_one x xs one
+
+pub one_less : {X : Type 0} (x : X) (xs : List X) → (one : IsIn x xs)
+    → length xs ≡ suc (length (without_one x xs one))
+one_less x [] one = absurd one
+one_less x (y ∷ xs) (inl is) = refl
+one_less x (y ∷ xs) (inr one) = let less = one_less x xs one in omega (arith, less)
+
+pub others_stay : {X : Type 0} (x : X) (xs : List X) → (one : IsIn x xs) → (other : X) → IsIn other xs
+    → ¬ (other ≡ x) → IsIn other (without_one x xs one)
+others_stay x [] one other too apart = absurd one
+others_stay x (y ∷ xs) (inl is) other (inl here) apart = absurd (apart (here ∙ sym is))
+others_stay x (y ∷ xs) (inl is) other (inr too) apart = too
+others_stay x (y ∷ xs) (inr one) other (inl here) apart = inl here
+others_stay x (y ∷ xs) (inr one) other (inr too) apart = inr (others_stay x xs one other too apart)
+
 -- Of numbers.
+pub came_of_in : (number : ℕ) (numbers : List ℕ) → IsIn number numbers → NumberCame number numbers
+came_of_in number [] one = one
+came_of_in number (first ∷ numbers) (inl is) = inl is
+came_of_in number (first ∷ numbers) (inr one) = inr (came_of_in number numbers one)
+
+pub in_of_came : (number : ℕ) (numbers : List ℕ) → NumberCame number numbers → IsIn number numbers
+in_of_came number [] one = one
+in_of_came number (first ∷ numbers) (inl is) = inl is
+in_of_came number (first ∷ numbers) (inr one) = inr (in_of_came number numbers one)
+
 pub came_of_contains : (numbers : List ℕ) (number : ℕ) → Contains numbers number → NumberCame number numbers
-came_of_contains numbers number contains = by_list numbers (in_of_contains numbers number contains)
-  where
-    by_list : (xs : List ℕ) → IsIn number xs → NumberCame number xs
-    by_list [] one = one
-    by_list (x ∷ xs) (inl is) = inl is
-    by_list (x ∷ xs) (inr one) = inr (by_list xs one)
+came_of_contains numbers number contains = came_of_in number numbers (in_of_contains numbers number contains)
 
 pub contains_of_came : (numbers : List ℕ) (number : ℕ) → NumberCame number numbers → Contains numbers number
-contains_of_came numbers number came = contains_of_in numbers number (by_list numbers came)
-  where
-    by_list : (xs : List ℕ) → NumberCame number xs → IsIn number xs
-    by_list [] one = one
-    by_list (x ∷ xs) (inl is) = inl is
-    by_list (x ∷ xs) (inr one) = inr (by_list xs one)
+contains_of_came numbers number came = contains_of_in numbers number (in_of_came number numbers came)

@@ -26,29 +26,9 @@ use Rattle.salvaging.specs.LeftParts.{LeftPart, Missing, Events, BadNumber, Doub
 use Rattle.salvaging.specs.declared.reason.Reason.{Reason}
 use Rattle.salvaging.specs.declared.reason.Reason.TheVariants as reason
 use Rattle.salvaging.proofs.EntriesOfLog.{same_packet}
-use Rattle.salvaging.proofs.Members.{IsIn, contains_of_in, in_of_contains}
+use Rattle.salvaging.proofs.Members.{IsIn, contains_of_in, in_of_contains, one_less, others_stay, without_one}
 
 -- Of distinct messages there are as many.
-abbrev without_one : (message : Message) (messages : List Message) → IsIn message messages → List Message
-without_one message [] there = absurd there
-without_one message (first ∷ messages) (inl is) = messages
-without_one message (first ∷ messages) (inr there) = first ∷ without_one message messages there
-
-one_less : (message : Message) (messages : List Message) → (there : IsIn message messages)
-    → length messages ≡ suc (length (without_one message messages there))
-one_less message [] there = absurd there
-one_less message (first ∷ messages) (inl is) = refl
-one_less message (first ∷ messages) (inr there) = let less = one_less message messages there in omega (arith, less)
-
-others_stay : (message : Message) (messages : List Message) → (there : IsIn message messages) → (other : Message)
-    → IsIn other messages → ¬ (other ≡ message) → IsIn other (without_one message messages there)
-others_stay message [] there other too apart = absurd there
-others_stay message (first ∷ messages) (inl is) other (inl here) apart = absurd (apart (here ∙ sym is))
-others_stay message (first ∷ messages) (inl is) other (inr too) apart = too
-others_stay message (first ∷ messages) (inr there) other (inl here) apart = inl here
-others_stay message (first ∷ messages) (inr there) other (inr too) apart =
-    inr (others_stay message messages there other too apart)
-
 fewer : (distinct others : List Message) → AllDiffer distinct
     → ((message : Message) → IsIn message distinct
     → (like : Message) × IsIn like others × AreAlike message like) → length distinct ≤ length others

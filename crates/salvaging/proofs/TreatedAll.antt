@@ -1,15 +1,14 @@
 -- The messages of a capture are treated one after the other.
-use Rattle.std.proofs.Common.{◌≡◌, ◌<◌, ◌≤◌, inl, inr, ℕ, zero, suc, ◌+◌, ◌++◌, ◌&&◌, ◌==◌, All, Bool, true, false}
+use Rattle.std.proofs.Common.{◌≡◌, ◌<◌, ◌≤◌, inl, inr, ℕ, zero, suc, ◌+◌, ◌++◌, ◌&&◌, ◌==◌, Bool, true, false}
 use Rattle.std.proofs.Common.{cond, List}
-use Rattle.std.proofs.Common.{[], ◌∷◌, ◌^◌, Contains, Some, drop, length, slice_get, refl, sym, ap, subst, ◌∙◌, arith}
+use Rattle.std.proofs.Common.{[], ◌∷◌, ◌^◌, Contains, Some, drop, length, replicate, slice_get, refl, sym, ap, subst, ◌∙◌, arith}
 use Rattle.std.proofs.Common.{take}
 use Rattle.std.proofs.Common.{slice_index_or, ⊎_elim}
 use Rattle.std.specs.Prelude.{◌≢◌, nat_lt, not}
 use Rattle.std.specs.List.{filter}
 use Rattle.message.specs.OfHart.{of_hart}
 use Rattle.std.proofs.lemmas.Bool.{lt-ltb, ltb-true}
-use Rattle.std.proofs.lemmas.List.{append-nil, length-set, length_push, take_more}
-use Rattle.std.proofs.lemmas.List.Elements.{All-head, All-tail}
+use Rattle.std.proofs.lemmas.List.{append-nil, length-replicate, length-set, length_push, take_more}
 use Rattle.std.proofs.lemmas.Option.{same_Some, slice_get_read, slice_get_within}
 use Rattle.std.specs.declared.vec.Vec.{Vec}
 use Rattle.rvclass.specs.Words.{Words}
@@ -63,12 +62,10 @@ pub record TreatedSo {A : Type 0} (harts : ℕ) (messages : List Message) (sorte
       → slice_get treated k ≡ Some one → is_stranger harts message ≡ false
       → slice_get sorted message.hart ≡ Some own → TreatsBy own (own_place messages k message) message one
 
-zero_at : (counts : List ℕ) (at n : ℕ) → All (λ n. n ≡ 0) counts → slice_get counts at ≡ Some n → n ≡ 0
-zero_at [] at n zeros here = cc
-zero_at (count ∷ counts) zero n zeros here =
-    let first : count ≡ 0 = All-head (λ (n : ℕ). n ≡ 0) count counts zeros in sym (same_Some count n here) ∙ first
-zero_at (count ∷ counts) (suc at) n zeros here =
-    zero_at counts at n (All-tail (λ (n : ℕ). n ≡ 0) count counts zeros) here
+zero_at : (long at n : ℕ) → slice_get (replicate long 0) at ≡ Some n → n ≡ 0
+zero_at zero at n here = cc
+zero_at (suc long) zero n here = sym (same_Some 0 n here)
+zero_at (suc long) (suc at) n here = zero_at long at n here
 
 -- A list is cut at an item.
 cut : (messages : List Message) (k : ℕ) (message : Message) → slice_get messages k ≡ Some message
@@ -110,11 +107,11 @@ length-take_le (suc k) (message ∷ messages) =
     let few = length-take_le k messages in omega (arith, few)
 
 module _ {A : Type 0} (harts : ℕ) (messages : List Message) (sorted : List (HartRows A)) where
-  pub treated_start : (counts : List ℕ) (treated : List Treated) → length counts ≡ harts
-      → All (λ n. n ≡ 0) counts → treated ≡ [] → TreatedSo harts messages sorted 0 counts treated
-  treated_start counts treated many zeros none = record {
-    counts_long = many;
-    counted = λ hart n at. zero_at counts hart n zeros at ∙ nothing hart;
+  pub treated_start : (counts : List ℕ) (treated : List Treated) → counts ≡ replicate harts 0 → treated ≡ []
+      → TreatedSo harts messages sorted 0 counts treated
+  treated_start counts treated zeros none = record {
+    counts_long = ap length zeros ∙ length-replicate harts 0;
+    counted = λ hart n at. zero_at harts hart n (subst (λ l. slice_get l hart ≡ Some n) zeros at) ∙ nothing hart;
     long = ap length none;
     strangers = λ k message one at_message at_one. nothing_there treated k one none at_one;
     others = λ k message one own at_message at_one. nothing_there treated k one none at_one;

@@ -17,12 +17,12 @@ use Rattle.payload.specs.declared.packet.Report.TheVariants.{Plain as PlainRepor
 use Rattle.payload.specs.declared.packet.Support.TheVariants.{Open, EndedNtr}
 use Rattle.encoder.specs.Packets.{packets}
 use Rattle.decoder.specs.Describes.{Describes}
-use Rattle.losses.specs.Runs.{Run, first_run, longer, trace_after, trace_of_run}
+use Rattle.losses.specs.Runs.{Run, first_run, longer, run_of, trace_after, trace_of_run}
 use Rattle.losses.proofs.WorkedLosses.{all, at, base, words}
 use Rattle.salvaging.specs.Bad.{IsGood}
 use Rattle.salvaging.specs.Entries.{Entry, Used, Doubtful, is_closed}
 use Rattle.salvaging.specs.Late.{late}
-use Rattle.salvaging.specs.Leaving.{EntriesLeave, mode_by, own_mode}
+use Rattle.salvaging.specs.Leaving.{EntriesLeave, UsedLeaves, mode_by, own_mode}
 use Rattle.salvaging.specs.LeftParts.{LeftPart, Missing, Events, BadNumber, DoubtfulNumber}
 use Rattle.salvaging.specs.declared.reason.Reason.TheVariants as reason
 use Rattle.losses.proofs.BlockTraces.{block_trace, events_of_block}
@@ -103,176 +103,95 @@ module _ (p0 p1 p2 p3 p4 bad : List ℕ) (r0 : reading p0 ≡ Ok opens) (r1 : re
   abbrev last_stretch : List LeftPart
   last_stretch = Events 3 4 (at 8 ∷ []) ∷ []
 
-  -- Number 2 is lost.
-  address_lost : leave (Used 0 0 p0 ∷ Used 1 1 p1 ∷ Used 3 2 p3 ∷ Used 4 3 p4 ∷ []) (true ∷ true ∷ true ∷ true ∷ [])
-      (Events 0 1 (at 0 ∷ []) ∷ Missing 1 ∷ last_stretch)
-  address_lost = (
-    [],
-    refl,
-    _,
-    refl,
+  -- Number 0 opens the trace.
+  opened : (entries : List Entry) (goods : List Bool) (left : List LeftPart)
+      → EntriesLeave words Differential (run_of 0 (opens ∷ [])) 1 entries goods left
+      → leave (Used 0 0 p0 ∷ entries) (true ∷ goods) left
+  opened entries goods left later =
+      ([], refl, _, refl, (opens, good _ p0 _ opens r0 (not_closing _) [] (from_open 1), later))
+
+  -- Number 1 is the first synchronisation.
+  begun : (entries : List Entry) (goods : List Bool) (left : List LeftPart)
+      → EntriesLeave words Differential (run_of 0 (opens ∷ first_sync ∷ [])) 2 entries goods left
+      → leave (Used 0 0 p0 ∷ Used 1 1 p1 ∷ entries) (true ∷ true ∷ goods) left
+  begun entries goods left later =
+      opened (Used 1 1 p1 ∷ entries) (true ∷ goods) left
+      ([], refl, _, refl, (first_sync, good _ p1 _ first_sync r1 (not_closing _) (at 0 ∷ []) (from_open 2), later))
+
+  -- Numbers 3 and 4 are the second synchronisation, before which a number is lost, and the closing packet.
+  ended : (three four : ℕ) → UsedLeaves words Differential (run_of 1 []) 3 three p3 (Some 4) true
+      (λ behind. EntriesLeave words Differential behind 4 (Used 4 four p4 ∷ []) (true ∷ [])) last_stretch
+  ended three four = (
+    second_sync,
+    good _ p3 _ second_sync r3 (not_closing _) (at 8 ∷ []) (from_second 1),
     (
-      opens,
-      good _ p0 _ opens r0 (not_closing _) [] (from_open 1),
+      [],
+      refl,
+      _,
+      refl,
       (
-        [],
-        refl,
-        _,
-        refl,
-        (
-          first_sync,
-          good _ p1 _ first_sync r1 (not_closing _) (at 0 ∷ []) (from_open 2),
-          (
-            Events 0 1 (at 0 ∷ []) ∷ Missing 1 ∷ [],
-            (Events 0 1 (at 0 ∷ []) ∷ [], (at 0 ∷ [], from_open 2, refl), refl),
-            last_stretch,
-            refl,
-            (
-              second_sync,
-              good _ p3 _ second_sync r3 (not_closing _) (at 8 ∷ []) (from_second 1),
-              (
-                [],
-                refl,
-                _,
-                refl,
-                (
-                  closes,
-                  good _ p4 _ closes r4 (λ is. refl) (at 8 ∷ []) (from_second 2),
-                  (at 8 ∷ [], from_second 2, refl),
-                ),
-              ),
-            ),
-          ),
-        ),
+        closes,
+        good _ p4 _ closes r4 (λ is. refl) (at 8 ∷ []) (from_second 2),
+        (at 8 ∷ [], from_second 2, refl),
       ),
     ),
   )
+
+  -- Number 2 is lost.
+  address_lost : leave (Used 0 0 p0 ∷ Used 1 1 p1 ∷ Used 3 2 p3 ∷ Used 4 3 p4 ∷ []) (true ∷ true ∷ true ∷ true ∷ [])
+      (Events 0 1 (at 0 ∷ []) ∷ Missing 1 ∷ last_stretch)
+  address_lost =
+      begun (Used 3 2 p3 ∷ Used 4 3 p4 ∷ []) (true ∷ true ∷ []) (Events 0 1 (at 0 ∷ []) ∷ Missing 1 ∷ last_stretch) (
+        Events 0 1 (at 0 ∷ []) ∷ Missing 1 ∷ [],
+        (Events 0 1 (at 0 ∷ []) ∷ [], (at 0 ∷ [], from_open 2, refl), refl),
+        last_stretch,
+        refl,
+        ended 2 3,
+      )
 
   -- It came with two payloads.
   address_doubtful : leave (Used 0 0 p0 ∷ Used 1 1 p1 ∷ Doubtful 2 2 3 ∷ Used 3 4 p3 ∷ Used 4 5 p4 ∷ [])
       (true ∷ true ∷ false ∷ true ∷ true ∷ [])
       (Events 0 1 (at 0 ∷ []) ∷ DoubtfulNumber 2 2 3 ∷ Missing 1 ∷ last_stretch)
-  address_doubtful = (
-    [],
-    refl,
-    _,
-    refl,
-    (
-      opens,
-      good _ p0 _ opens r0 (not_closing _) [] (from_open 1),
-      (
-        [],
+  address_doubtful =
+      begun (Doubtful 2 2 3 ∷ Used 3 4 p3 ∷ Used 4 5 p4 ∷ []) (false ∷ true ∷ true ∷ [])
+      (Events 0 1 (at 0 ∷ []) ∷ DoubtfulNumber 2 2 3 ∷ Missing 1 ∷ last_stretch) (
         refl,
-        _,
+        Events 0 1 (at 0 ∷ []) ∷ [],
+        (at 0 ∷ [], from_open 2, refl),
+        Missing 1 ∷ last_stretch,
         refl,
-        (
-          first_sync,
-          good _ p1 _ first_sync r1 (not_closing _) (at 0 ∷ []) (from_open 2),
-          (
-            refl,
-            Events 0 1 (at 0 ∷ []) ∷ [],
-            (at 0 ∷ [], from_open 2, refl),
-            Missing 1 ∷ last_stretch,
-            refl,
-            (
-              Missing 1 ∷ [],
-              ([], ([], from_second 0, refl), refl),
-              last_stretch,
-              refl,
-              (
-                second_sync,
-                good _ p3 _ second_sync r3 (not_closing _) (at 8 ∷ []) (from_second 1),
-                (
-                  [],
-                  refl,
-                  _,
-                  refl,
-                  (
-                    closes,
-                    good _ p4 _ closes r4 (λ is. refl) (at 8 ∷ []) (from_second 2),
-                    (at 8 ∷ [], from_second 2, refl),
-                  ),
-                ),
-              ),
-            ),
-          ),
-        ),
-      ),
-    ),
-  )
+        (Missing 1 ∷ [], ([], ([], from_second 0, refl), refl), last_stretch, refl, ended 4 5),
+      )
 
   -- It is a closing packet.
   closing_in_the_middle : leave (Used 0 0 p0 ∷ Used 1 1 p1 ∷ Used 2 2 p4 ∷ Used 3 3 p3 ∷ Used 4 4 p4 ∷ [])
       (true ∷ true ∷ false ∷ true ∷ true ∷ [])
       (Events 0 1 (at 0 ∷ []) ∷ BadNumber 2 2 (reason.Closing 3) ∷ last_stretch)
-  closing_in_the_middle = (
-    [],
-    refl,
-    _,
-    refl,
-    (
-      opens,
-      good _ p0 _ opens r0 (not_closing _) [] (from_open 1),
-      (
+  closing_in_the_middle =
+      begun (Used 2 2 p4 ∷ Used 3 3 p3 ∷ Used 4 4 p4 ∷ []) (false ∷ true ∷ true ∷ [])
+      (Events 0 1 (at 0 ∷ []) ∷ BadNumber 2 2 (reason.Closing 3) ∷ last_stretch) (
         [],
         refl,
         _,
         refl,
         (
-          first_sync,
-          good _ p1 _ first_sync r1 (not_closing _) (at 0 ∷ []) (from_open 2),
-          (
-            [],
-            refl,
-            _,
-            refl,
-            (
-              reason.Closing 3,
-              (ap is_closing_reading r4, refl),
-              Events 0 1 (at 0 ∷ []) ∷ [],
-              (at 0 ∷ [], from_open 2, refl),
-              last_stretch,
-              refl,
-              (
-                [],
-                refl,
-                _,
-                refl,
-                (
-                  second_sync,
-                  good _ p3 _ second_sync r3 (not_closing _) (at 8 ∷ []) (from_second 1),
-                  (
-                    [],
-                    refl,
-                    _,
-                    refl,
-                    (
-                      closes,
-                      good _ p4 _ closes r4 (λ is. refl) (at 8 ∷ []) (from_second 2),
-                      (at 8 ∷ [], from_second 2, refl),
-                    ),
-                  ),
-                ),
-              ),
-            ),
-          ),
+          reason.Closing 3,
+          (ap is_closing_reading r4, refl),
+          Events 0 1 (at 0 ∷ []) ∷ [],
+          (at 0 ∷ [], from_open 2, refl),
+          last_stretch,
+          refl,
+          ([], refl, _, refl, ended 3 4),
         ),
-      ),
-    ),
-  )
+      )
 
   -- Neither number 1, a synchronisation, nor number 2 unpacks.
   two_unread : leave (Used 0 0 p0 ∷ Used 1 1 bad ∷ Used 2 2 bad ∷ Used 3 3 p3 ∷ Used 4 4 p4 ∷ [])
       (true ∷ false ∷ false ∷ true ∷ true ∷ []) (BadNumber 1 1 (reason.Packet why) ∷ BadNumber 2 2 (reason.Packet why) ∷ last_stretch)
-  two_unread = (
-    [],
-    refl,
-    _,
-    refl,
-    (
-      opens,
-      good _ p0 _ opens r0 (not_closing _) [] (from_open 1),
-      (
+  two_unread =
+      opened (Used 1 1 bad ∷ Used 2 2 bad ∷ Used 3 3 p3 ∷ Used 4 4 p4 ∷ []) (false ∷ false ∷ true ∷ true ∷ [])
+      (BadNumber 1 1 (reason.Packet why) ∷ BadNumber 2 2 (reason.Packet why) ∷ last_stretch) (
         [],
         refl,
         _,
@@ -296,53 +215,22 @@ module _ (p0 p1 p2 p3 p4 bad : List ℕ) (r0 : reading p0 ≡ Ok opens) (r1 : re
               ([], from_second 0, refl),
               last_stretch,
               refl,
-              (
-                [],
-                refl,
-                _,
-                refl,
-                (
-                  second_sync,
-                  good _ p3 _ second_sync r3 (not_closing _) (at 8 ∷ []) (from_second 1),
-                  (
-                    [],
-                    refl,
-                    _,
-                    refl,
-                    (
-                      closes,
-                      good _ p4 _ closes r4 (λ is. refl) (at 8 ∷ []) (from_second 2),
-                      (at 8 ∷ [], from_second 2, refl),
-                    ),
-                  ),
-                ),
-              ),
+              ([], refl, _, refl, ended 3 4),
             ),
           ),
         ),
-      ),
-    ),
-  )
+      )
 
   -- All between the first and the last is lost: the closing packet is passed over.
   all_between_lost : leave (Used 0 0 p0 ∷ Used 4 1 p4 ∷ []) (true ∷ true ∷ []) (Missing 3 ∷ [])
-  all_between_lost = (
-    [],
-    refl,
-    _,
-    refl,
-    (
-      opens,
-      good _ p0 _ opens r0 (not_closing _) [] (from_open 1),
-      (
+  all_between_lost =
+      opened (Used 4 1 p4 ∷ []) (true ∷ []) (Missing 3 ∷ []) (
         Missing 3 ∷ [],
         ([], ([], from_open 1, refl), refl),
         [],
         refl,
         (closes, good _ p4 _ closes r4 (λ is. refl) [] (from_second 0), ([], from_second 0, refl)),
-      ),
-    ),
-  )
+      )
 
   -- Numbers 2 and 1 were exchanged: number 1 is late, by a good message alone.
   exchanged : late (Used 0 0 p0 ∷ Used 1 2 p1 ∷ Used 2 1 p2 ∷ []) (true ∷ true ∷ true ∷ []) ≡ 1

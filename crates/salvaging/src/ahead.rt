@@ -1,10 +1,9 @@
 //! How many places that are taken come after a place.
 
-ghost use Rattle.std.specs.Prelude.{◌≡◌, ◌<◌, ◌+◌, ◌^◌, [], All, IfOk, count_by, false, length, slice_index_or};
+ghost use Rattle.std.specs.Prelude.{◌≡◌, ◌<◌, ◌+◌, ◌^◌, [], All, IfOk, count_by, length, slice_index_or};
 ghost use Rattle.std.specs.Prelude.{slice_set, sum, true};
 ghost use Rattle.salvaging.specs.steps.Ahead.{AreLevels, CanRaise, HasTaken, block_behind, flags_behind, lists_in, raised};
 
-use crate::treating::zeros;
 use std::alloc::{AllocError, Allocator};
 
 /// How many places are in a block, and how many blocks of a level in one of the next.
@@ -60,18 +59,6 @@ fn add_one<A: Allocator>(level: &mut Vec<usize, A>, at: usize)
     level[at] += 1;
 }
 
-/// So many flags that are not set.
-fn clear_flags<A: Allocator + Copy>(alloc: A, count: usize) -> Result<Vec<bool, A>, AllocError>
-    ensures count { IfOk result (λ flags. length flags.items ≡ count) }
-    ensures clear { IfOk result (λ flags. All (λ flag. flag ≡ false) flags.items) }
-{
-    let mut flags = Vec::with_capacity(alloc, count)?;
-    for _ in 0..count {
-        flags.push_reserved(false);
-    }
-    Ok(flags)
-}
-
 /// The levels over so many places, where none is taken.
 fn clear_levels<A: Allocator + Copy>(
     alloc: A,
@@ -85,7 +72,8 @@ fn clear_levels<A: Allocator + Copy>(
     while long > BLOCK {
         long = long / BLOCK + 1;
         levels.reserve(1)?;
-        levels.push_reserved(zeros(alloc, long)?);
+        let level = vec![in alloc; 0; long]?;
+        levels.push_reserved(level);
     }
     Ok(levels)
 }
@@ -96,7 +84,7 @@ impl<A: Allocator + Copy> TakenPlaces<A> {
         ensures none { IfOk result (λ places. HasTaken places []) }
         ensures count { IfOk result (λ places. length places.taken.items ≡ count) }
     {
-        let taken = clear_flags(alloc, count)?;
+        let taken = vec![in alloc; false; count]?;
         let levels = clear_levels(alloc, count)?;
         Ok(TakenPlaces { taken, levels })
     }

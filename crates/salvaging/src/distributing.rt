@@ -1,8 +1,7 @@
 //! From messages in the order in which they came to those of each hart.
 
-ghost use Rattle.std.specs.Prelude.{◌≡◌, [], All, IfOk, OnOk, count_by, length};
+ghost use Rattle.std.specs.Prelude.{◌≡◌, IfOk, OnOk, count_by, length};
 ghost use Rattle.salvaging.specs.Strangers.{has_number, is_stranger};
-ghost use Rattle.salvaging.specs.steps.Arrivals.{arrivals_in};
 ghost use Rattle.salvaging.specs.steps.Distributing.{AddsArrival, Distributes};
 
 use crate::received::ReceivedMessage;
@@ -36,21 +35,6 @@ pub(crate) fn strangers(harts: u16, messages: &[Message]) -> usize
         .count()
 }
 
-/// So many empty lists.
-fn empty_lists<'a, A: Allocator + Copy>(
-    alloc: A,
-    count: usize,
-) -> Result<Vec<Vec<ReceivedMessage<'a>, A>, A>, AllocError>
-    ensures count { IfOk result (λ lists. length lists.items ≡ count) }
-    ensures empty { IfOk result (λ lists. All (λ list. arrivals_in list.items ≡ []) lists.items) }
-{
-    let mut lists = Vec::with_capacity(alloc, count)?;
-    for _ in 0..count {
-        lists.push_reserved(Vec::new(alloc));
-    }
-    Ok(lists)
-}
-
 /// Adds a message to the list of its hart, if it is known and may have the message's number.
 fn add<'a, A: Allocator>(
     lists: &mut Vec<Vec<ReceivedMessage<'a>, A>, A>,
@@ -81,7 +65,7 @@ pub(crate) fn distribute<'a, A: Allocator + Copy>(
     ensures count { IfOk result (λ lists. length lists.items ≡ harts) }
     ensures each { IfOk result (λ lists. Distributes messages.now lists.items) }
 {
-    let mut lists = empty_lists(alloc, usize::from(harts))?;
+    let mut lists = vec![in alloc; Vec::new(alloc); usize::from(harts)]?;
     for message in messages {
         add(&mut lists, message)?;
     }

@@ -16,6 +16,13 @@ use crate::received::ReceivedMessage;
 use crate::rows::number_of;
 use std::alloc::{AllocError, Allocator};
 
+/// What is reported of the gaps before a hart's numbers, and the far ones among those.
+#[derive(Drop)]
+pub(crate) struct GapReport<A: Allocator> {
+    pub(crate) gaps: Vec<u64, A>,
+    pub(crate) far: Vec<FarNumber, A>,
+}
+
 /// The number after the last one that is believed, after an entry.
 fn believed_behind(far: bool, next: u64, entry: Entry<'_>) -> u64
     requires { entry_number (entry_of entry) < end_of_numbers }
@@ -47,30 +54,6 @@ fn push_gap<A: Allocator>(
         gaps.push(missing)?;
     }
     Ok(())
-}
-
-/// What is reported of the gaps before a hart's numbers up to its end, by which of them are far. The messages are in the
-/// order of their numbers.
-pub(crate) fn reported_gaps<A: Allocator + Copy>(
-    alloc: A,
-    came: &[ReceivedMessage<'_>],
-    far: &[bool],
-) -> Result<Vec<u64, A>, AllocError>
-    requires small { AreSmall (entries_by (arrivals_in came.now)) }
-    requires far { length (entries_by (arrivals_in came.now)) ≤ length far.now }
-    ensures { IfOk result (λ gaps. gaps.items ≡ reported_gaps 0 (entries_by (arrivals_in came.now)) far.now) }
-{
-    let mut gaps = Vec::new(alloc);
-    let mut next = 0;
-    let mut rest = came;
-    let mut at = 0;
-    while let Some((entry, count)) = first_entry(rest) {
-        push_gap(&mut gaps, far[at], next, entry)?;
-        next = believed_behind(far[at], next, entry);
-        at += 1;
-        rest = &rest[count..];
-    }
-    Ok(gaps)
 }
 
 /// What is done with the message of a far number, by the verdict on the number.
@@ -112,26 +95,34 @@ fn push_far<A: Allocator>(
     }
 }
 
-/// The far ones among a hart's numbers up to its end, by the verdict on each and by which of them are far. The messages
-/// are in the order of their numbers.
-pub(crate) fn far_among<A: Allocator + Copy>(
+/// What is reported of the gaps before a hart's numbers up to its end, and the far ones among those, by the verdict on each
+/// and by which of them are far. The messages are in the order of their numbers.
+pub(crate) fn report_of<A: Allocator + Copy>(
     alloc: A,
     came: &[ReceivedMessage<'_>],
     verdicts: &[Verdict],
     far: &[bool],
-) -> Result<Vec<FarNumber, A>, AllocError>
+) -> Result<GapReport<A>, AllocError>
+    requires small { AreSmall (entries_by (arrivals_in came.now)) }
     requires verdicts { length (entries_by (arrivals_in came.now)) ≤ length verdicts.now }
     requires far { length (entries_by (arrivals_in came.now)) ≤ length far.now }
-    ensures { IfOk result (λ numbers. numbers.items
+    ensures gaps { IfOk result (λ report. report.gaps.items
+        ≡ reported_gaps 0 (entries_by (arrivals_in came.now)) far.now) }
+    ensures far { IfOk result (λ report. report.far.items
         ≡ far_among far_verdict (entries_by (arrivals_in came.now)) verdicts.now far.now) }
 {
-    let mut numbers = Vec::new(alloc);
+    let gaps = Vec::new(alloc);
+    let numbers = Vec::new(alloc);
+    let mut report = GapReport { gaps, far: numbers };
+    let mut next = 0;
     let mut rest = came;
     let mut at = 0;
     while let Some((entry, count)) = first_entry(rest) {
-        push_far(&mut numbers, far[at], entry, verdicts[at])?;
+        push_gap(&mut report.gaps, far[at], next, entry)?;
+        push_far(&mut report.far, far[at], entry, verdicts[at])?;
+        next = believed_behind(far[at], next, entry);
         at += 1;
         rest = &rest[count..];
     }
-    Ok(numbers)
+    Ok(report)
 }

@@ -7,7 +7,7 @@ ghost use Rattle.salvaging.specs.Salvaged.{IsSalvagedHart};
 ghost use Rattle.salvaging.specs.steps.Arrivals.{HaveNumbers, HavePlaces, arrivals_in, placed_from};
 
 use crate::copies::copies;
-use crate::gaps::{far_among, reported_gaps};
+use crate::gaps::report_of;
 use crate::late::late;
 use crate::mark::Verdict;
 use crate::received::ReceivedMessage;
@@ -41,8 +41,7 @@ pub(crate) fn salvage_hart<A: Allocator + Copy, V: ProgressSink>(
     let verdicts = worked.marks.as_slice();
     let flags = worked.far.as_slice();
     let upto = &ordered[..worked.end];
-    let gaps = reported_gaps(alloc, upto, flags)?;
-    let far = far_among(alloc, upto, verdicts, flags)?;
+    let report = report_of(alloc, upto, verdicts, flags)?;
     let copies = copies(ordered);
     let late = late(ordered, verdicts, flags);
     let tally = tally(verdicts);
@@ -50,8 +49,8 @@ pub(crate) fn salvage_hart<A: Allocator + Copy, V: ProgressSink>(
     Ok(SalvagedHart {
         parts: worked.parts,
         copies,
-        gaps,
-        far,
+        gaps: report.gaps,
+        far: report.far,
         late,
         decoded: tally.decoded,
         passed: tally.passed,

@@ -1,6 +1,7 @@
 //! The mode in which a hart's trace is read.
 
 ghost use Rattle.std.specs.Prelude.{◌≡◌, Ok};
+ghost use Rattle.losses.specs.Runs.{mode_or};
 ghost use Rattle.payload.specs.Reading.{reading};
 ghost use Rattle.salvaging.specs.Leaving.{mode_by, own_mode};
 ghost use Rattle.salvaging.specs.steps.Arrivals.{arrivals_in};
@@ -12,6 +13,16 @@ use crate::received::ReceivedMessage;
 use message::Message;
 use payload::{Mode, Packet, Support, unpack};
 
+/// The mode that a packet announces, if it opens a trace, and else this one.
+fn mode_or(mode: Mode, packet: &Packet) -> Mode
+    ensures { result ≡ mode_or mode packet.now }
+{
+    match packet {
+        Packet::Support(Support::Open(announced)) => *announced,
+        _ => mode,
+    }
+}
+
 /// The mode that a message announces, if its number is 0 and its packet opens a trace, and else this one.
 fn mode_by(mode: Mode, message: &Message) -> Mode
     ensures { result ≡ mode_by message.now.number mode (reading message.now.payload) }
@@ -20,8 +31,8 @@ fn mode_by(mode: Mode, message: &Message) -> Mode
         return mode;
     }
     match unpack(message.payload.bytes()) {
-        Ok(Packet::Support(Support::Open(announced))) => announced,
-        _ => mode,
+        Ok(packet) => mode_or(mode, &packet),
+        Err(_) => mode,
     }
 }
 

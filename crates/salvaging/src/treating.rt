@@ -43,21 +43,6 @@ fn sort_each<'a, A: Allocator + Copy, V: ProgressSink>(
     Ok(harts)
 }
 
-/// So many zeros.
-pub(crate) fn zeros<A: Allocator + Copy>(
-    alloc: A,
-    count: usize,
-) -> Result<Vec<usize, A>, AllocError>
-    ensures count { IfOk result (λ counts. length counts.items ≡ count) }
-    ensures zero { IfOk result (λ counts. All (λ n. n ≡ 0) counts.items) }
-{
-    let mut counts = Vec::with_capacity(alloc, count)?;
-    for _ in 0..count {
-        counts.push_reserved(0);
-    }
-    Ok(counts)
-}
-
 /// What is done with a stranger.
 fn stranger() -> Treated
     ensures { result ≡ stranger }
@@ -118,7 +103,7 @@ fn treat_each<A: Allocator + Copy>(
         → IsSortedOut words mode (own_messages hart messages.now) own)
         → IfOk result (λ treated. AreTreated words mode harts messages.now treated.items) }
 {
-    let mut counts = zeros(alloc, usize::from(harts))?;
+    let mut counts = vec![in alloc; 0; usize::from(harts)]?;
     let mut treated = Vec::with_capacity(alloc, messages.len())?;
     for message in messages {
         treated.push_reserved(treat_next(harts, sorted, &mut counts, message));

@@ -1,6 +1,6 @@
 -- A capture, turn after turn.
 use Rattle.std.proofs.Common.{◌≡◌, ◌⊎◌, inl, inr, ◌<◌, ◌≤◌, ◌+◌, ◌∙◌, ℕ, zero, suc, List, [], ◌++◌, Option, Some, None}
-use Rattle.std.proofs.Common.{arith, length, slice_get, get_or, append_assoc, append-nil, ap, refl, subst, sym}
+use Rattle.std.proofs.Common.{arith, length, slice_get, get_or, append-nil, ap, refl, subst, sym}
 use Rattle.std.proofs.KnownBytes.{Appends-trans}
 use Rattle.std.proofs.lemmas.List.{length-replicate}
 use Rattle.std.proofs.lemmas.Option.{slice_get_cases}
@@ -22,17 +22,22 @@ use Rattle.stimulus.specs.declared.capturing.Capture.{Capture}
 use Rattle.stimulus.specs.declared.order.Turn.{Turn}
 use Rattle.stimulus.specs.declared.sender.Sender.{Sender}
 use Rattle.stimulus.specs.steps.Sending.{AllBegun, AllSend, AreSent, Grows, IsClosed}
-use Rattle.stimulus.proofs.SendLemmas.{all_both, all_stay, all_then_begun, begun_longer, log_sent}
+use Rattle.stimulus.proofs.SendLemmas.{all_both, all_stay, all_then_begun, begun_longer, log_sent, grows_both}
 
--- Messages that grow, and grow more.
-grows_both : (one two three : List Message) → Grows one two → Grows two three → Grows one three
-grows_both one two three first then = record {
-  more = first.more ++ then.more;
-  parted = then.parted ∙ ap (λ l. l ++ then.more) first.parted ∙ append_assoc one first.more then.more;
-}
-
+-- Messages that are as they were.
 grows_not : (messages : List Message) → Grows messages messages
 grows_not messages = record { more = []; parted = sym (append-nil messages) }
+
+-- Messages that grow at each of the steps from one count to another.
+grow_along : (at : ℕ → List Message) → ((count : ℕ) → Grows (at count) (at (suc count))) → (count more most : ℕ)
+    → most ≡ more + count → Grows (at count) (at most)
+grow_along at each count zero most is =
+    let same : count ≡ most = omega (arith, is) in subst (λ n. Grows (at count) (at n)) same (grows_not (at count))
+grow_along at each count (suc more) most is =
+    let last : suc (more + count) ≡ most = omega (arith, is) in
+    subst (λ n. Grows (at count) (at n)) last
+    (grows_both (at count) (at (more + count)) (at (suc (more + count))) (grow_along at each count more (more + count) refl)
+    (each (more + count)))
 
 module _ (words : Words) (plan : Plan) where
   -- Where a hart goes on, the messages grow.
@@ -70,17 +75,7 @@ module _ (words : Words) (plan : Plan) where
 
     turns_grow : (count more most : ℕ) → most ≡ more + count
         → Grows (after_turns words plan first count).0.messages (after_turns words plan first most).0.messages
-    turns_grow count zero most is =
-        let same : count ≡ most = omega (arith, is) in
-        subst (λ n. Grows (after_turns words plan first count).0.messages (after_turns words plan first n).0.messages)
-        same (grows_not (after_turns words plan first count).0.messages)
-    turns_grow count (suc more) most is =
-        let last : suc (more + count) ≡ most = omega (arith, is) in
-        subst (λ n. Grows (after_turns words plan first count).0.messages (after_turns words plan first n).0.messages)
-        last (grows_both (after_turns words plan first count).0.messages
-        (after_turns words plan first (more + count)).0.messages
-        (after_turns words plan first (suc (more + count))).0.messages
-        (turns_grow count more (more + count) refl) (turn_grows (more + count)))
+    turns_grow = grow_along (λ n. (after_turns words plan first n).0.messages) turn_grows
 
   -- So many turns were taken.
   pub record Turned (first : Sent × Drawn) (count : ℕ) (drawn : Drawn) (senders : List Sender)
@@ -174,19 +169,10 @@ module _ (words : Words) (plan : Plan) where
 
     pub closing_grow : (count more most : ℕ) → most ≡ more + count
         → Grows (after_closing words plan sent count).messages (after_closing words plan sent most).messages
-    closing_grow count zero most is =
-        let same : count ≡ most = omega (arith, is) in
-        subst (λ n. Grows (after_closing words plan sent count).messages (after_closing words plan sent n).messages)
-        same (grows_not (after_closing words plan sent count).messages)
-    closing_grow count (suc more) most is =
-        let last : suc (more + count) ≡ most = omega (arith, is) in
-        let mid = after_closing words plan sent (more + count) in
-        subst (λ n. Grows (after_closing words plan sent count).messages (after_closing words plan sent n).messages)
-        last (grows_both (after_closing words plan sent count).messages mid.messages
-        (after_closing words plan sent (suc (more + count))).messages
-        (closing_grow count more (more + count) refl)
-        (subst (λ (s : Sent). Grows mid.messages s.messages) (closing_suc (more + count))
-        (goes_grow closes (more + count) mid)))
+    closing_grow =
+        grow_along (λ n. (after_closing words plan sent n).messages) (λ n.
+        subst (λ (s : Sent). Grows (after_closing words plan sent n).messages s.messages) (closing_suc n)
+        (goes_grow closes n (after_closing words plan sent n)))
 
 module _ (program : Image) (asked : Capture) where
   abbrev words : Words

@@ -16,13 +16,13 @@ use Rattle.legalpath.specs.Legal.{Legal}
 use Rattle.stimulus.specs.ImageBytes.{generator}
 use Rattle.stimulus.specs.Mix.{habits_of}
 use Rattle.stimulus.specs.Walk.{branches, branches_by, comes_at, comes_where, draws_trap, epc_by, excepts, extent_of}
-use Rattle.stimulus.specs.Walk.{first_walk, handles, is_taken, lands, levels, number, raised, retires_free, returns_by}
-use Rattle.stimulus.specs.Walk.{steps, steps_by, trap_by, traps_of, walked}
+use Rattle.stimulus.specs.Walk.{first_walk, handles, is_taken, lands, levels, number, raised, returns_by, steps}
+use Rattle.stimulus.specs.Walk.{steps_by, trap_by, traps_of, walked, stream_of}
 use Rattle.stimulus.specs.WalkKept.{HasGone, state_of, walk_of}
 use Rattle.stimulus.specs.Walked.{MayGoOn, hart_log}
 use Rattle.stimulus.specs.declared.mix.Mix.{Mix}
 use Rattle.stimulus.specs.declared.walk.Walk.{Walk}
-use Rattle.stimulus.proofs.WalkLemmas.{IsStep, even_base, first_goes_on, stepped}
+use Rattle.stimulus.proofs.WalkLemmas.{even_base, first_goes_on, stepped}
 
 -- Walks have the same of all that no state keeps.
 record AreAlike (one other : Walk) : Type 0 where
@@ -167,7 +167,7 @@ module _ (program : Image) (mix : Mix) (seed hart : ℕ) where
   begins = record {
     extent = extent_of program;
     habits = habits_of mix;
-    random = generator seed (65536 + hart);
+    random = generator seed (stream_of hart);
     at = 0;
     privilege = 3;
     is_free = true;
@@ -183,14 +183,14 @@ module _ (program : Image) (mix : Mix) (seed hart : ℕ) where
       ap (λ extent. record {
         extent = extent;
         habits = habits_of mix;
-        random = record { state = walk.random.state; increment = increment_of 64 (65536 + hart) };
+        random = record { state = walk.random.state; increment = increment_of 64 (stream_of hart) };
         at = walk.at;
         privilege = walk.privilege;
         is_free = walk.is_free;
       }) (sym whole.extent)
       ∙ ap (λ habits. record walk {
         habits = habits;
-        random = record { state = walk.random.state; increment = increment_of 64 (65536 + hart) };
+        random = record { state = walk.random.state; increment = increment_of 64 (stream_of hart) };
       }) (sym whole.habits)
       ∙ ap (λ increment. record walk {
         random = record { state = walk.random.state; increment = increment };

@@ -214,11 +214,8 @@ ended messages ranges = record {
   ranges = ranges;
   rest = [];
   parted = sym (append-nil (capture messages));
-  no_more = λ message later is none. never (sym none);
+  no_more = λ message later is none. cc;
 }
-  where
-    never : {x : ℕ} {xs : List ℕ} → x ∷ xs ≡ [] → ⊥
-    never is = cc
 
 -- The messages of bytes that hold no other bytes.
 pub all_held : (left : List (List Message)) (bytes : List (List ℕ)) → bytes ≡ map capture left
@@ -268,10 +265,7 @@ found_in (suc room) bytes are few = by (front_of bytes are) (found_in room)
 
     by : Front bytes → ((rest : List ℕ) → AreBytes rest → length rest ≤ room → SomeAreInFront rest)
         → SomeAreInFront bytes
-    by (inl none) rest_of = none_in_front bytes (λ message later is same. never (sym none ∙ same))
-      where
-        never : {x : ℕ} {xs : List ℕ} → [] ≡ x ∷ xs → ⊥
-        never is = cc
+    by (inl none) rest_of = none_in_front bytes (λ message later is same. cc (sym none ∙ same))
     by (inr (inl cut)) rest_of =
         none_in_front bytes (λ message later is same. not_cut message later is (subst IsCut same cut))
     by (inr (inr (inl bad))) rest_of =

@@ -19,10 +19,6 @@ AreOwn hart (own ∷ rest) = All (λ (message : Message). message.hart ≡ hart)
 abbrev joined : List (List Message) → List Message
 joined left = flat_map (λ own. own) left
 
--- No list is empty and not.
-no_first : {X : Type 0} (x : X) (xs : List X) → [] ≡ x ∷ xs → ⊥
-no_first x xs is = cc
-
 -- Another hart has none of a hart's messages.
 others_none : (hart own : ℕ) (messages : List Message) → hart ≢ own
     → All (λ (message : Message). message.hart ≡ own) messages → of_hart hart messages ≡ []
@@ -40,9 +36,9 @@ first_hart (message ∷ messages) = message.hart
 -- The message that is first at a place is of that hart or a later one.
 hart_of : (hart place : ℕ) (left : List (List Message)) (message : Message) (rest : List Message) → AreOwn hart left
     → get_or left place [] ≡ message ∷ rest → hart ≤ message.hart
-hart_of hart zero [] message rest own is = absurd (no_first message rest is)
-hart_of hart (suc place) [] message rest own is = absurd (no_first message rest is)
-hart_of hart zero ([] ∷ left) message rest own is = absurd (no_first message rest is)
+hart_of hart zero [] message rest own is = cc
+hart_of hart (suc place) [] message rest own is = cc
+hart_of hart zero ([] ∷ left) message rest own is = cc
 hart_of hart zero ((first ∷ more) ∷ left) message rest own is =
     let here = All-head (λ (message : Message). message.hart ≡ hart) first more own.0 in
     let same : first.hart ≡ message.hart = ap first_hart is in
@@ -53,8 +49,8 @@ hart_of hart (suc place) (first ∷ left) message rest own is =
 -- What is left behind the first one is still of that hart.
 left_own : (hart place : ℕ) (left : List (List Message)) (message : Message) (rest : List Message) → AreOwn hart left
     → get_or left place [] ≡ message ∷ rest → AreOwn hart (set left place rest)
-left_own hart zero [] message rest own is = absurd (no_first message rest is)
-left_own hart (suc place) [] message rest own is = absurd (no_first message rest is)
+left_own hart zero [] message rest own is = cc
+left_own hart (suc place) [] message rest own is = cc
 left_own hart zero (first ∷ left) message rest own is = (
   All-tail (λ (message : Message). message.hart ≡ hart) message rest
       (subst (All (λ (message : Message). message.hart ≡ hart)) is own.0),
@@ -85,8 +81,8 @@ apart hart own message messages more other all = by (eqb hart own) refl
 taken_first : (own place : ℕ) (left : List (List Message)) (message : Message) (rest : List Message) → AreOwn own left
     → get_or left place [] ≡ message ∷ rest → (hart : ℕ)
     → of_hart hart (message ∷ []) ++ of_hart hart (joined (set left place rest)) ≡ of_hart hart (joined left)
-taken_first own zero [] message rest are is hart = absurd (no_first message rest is)
-taken_first own (suc place) [] message rest are is hart = absurd (no_first message rest is)
+taken_first own zero [] message rest are is hart = cc
+taken_first own (suc place) [] message rest are is hart = cc
 taken_first own zero (first ∷ left) message rest are is hart =
     sym (of_hart-append hart (message ∷ []) (rest ++ joined left))
     ∙ ap (λ front. of_hart hart (front ++ joined left)) (sym is)

@@ -1,17 +1,18 @@
 -- What harts have sent, with more messages of one of them.
 use Rattle.std.proofs.Common.{◌≡◌, ◌≢◌, ◌⊎◌, inl, inr, ◌<◌, ◌≤◌, ◌+◌, ◌∙◌, ℕ, zero, suc, List, [], ◌∷◌, ◌++◌, Option}
-use Rattle.std.proofs.Common.{Some, None, arith, length, map, take, drop, drop-cons, set, slice_get, get_or, append_assoc}
-use Rattle.std.proofs.Common.{ap, false, refl, replicate, subst, sym, true}
+use Rattle.std.proofs.Common.{Some, arith, length, map, take, drop, set, slice_get, get_or, append_assoc, ap, refl}
+use Rattle.std.proofs.Common.{replicate, subst, sym, true, drop_at}
 use Rattle.std.proofs.KnownBytes.{Appends-nil, Appends-trans}
-use Rattle.std.proofs.lemmas.List.{append-nil, length-append, length-map, length-replicate, length-set, length_push, map-append}
-use Rattle.std.proofs.lemmas.List.{take-append-drop, take_all, take_more}
+use Rattle.std.proofs.lemmas.List.{append-nil, length-append, length-map, length-replicate, length-set, length_push}
+use Rattle.std.proofs.lemmas.List.{map-append, take-append-drop, take_all, take_more, set_past, drop_more}
 use Rattle.std.proofs.lemmas.Bool.{cases_lt}
 use Rattle.std.proofs.lemmas.List.Elements.{All-get_or}
-use Rattle.std.proofs.lemmas.Option.{same_Some, slice_get-get_or}
+use Rattle.std.proofs.lemmas.Option.{same_Some, slice_get-get_or, slice_get_past}
 use Rattle.std.specs.Prelude.{All, OnOk, Result, Ok, Err}
 use Rattle.std.specs.Io.KnownBytes.{Appends}
 use Rattle.output.specs.Begun.{AppendsBeginning}
 use Rattle.output.proofs.Beginnings.{begun_behind, begun_in_front, whole_begun}
+use Rattle.captures.proofs.Passes.{joined}
 use Rattle.retire.specs.Log.{most_long_rows}
 use Rattle.retire.specs.declared.event.Event.{Event}
 use Rattle.rvclass.specs.Fetch.{words_of}
@@ -42,13 +43,6 @@ use Rattle.stimulus.specs.steps.Sending.{IsIn, Numbered, Sends}
 use Rattle.stimulus.proofs.TraceLemmas.{closed_first, closed_given, closed_second, fewest_none, first_given}
 use Rattle.stimulus.proofs.TraceLemmas.{known_first, so_far, unsent_given}
 
--- The bytes of messages, one list after another.
-pub capture-append : (front back : List Message) → capture (front ++ back) ≡ capture front ++ capture back
-capture-append [] back = refl
-capture-append (m ∷ front) back =
-    ap (λ l. message_bytes m ++ l) (capture-append front back)
-    ∙ sym (append_assoc (message_bytes m) (capture front) (capture back))
-
 -- The messages of payloads, one list after another.
 pub messages_from-append : (hart number : ℕ) (front back : List (List ℕ))
     → messages_from hart number (front ++ back)
@@ -78,20 +72,6 @@ of_hart-none other hart number (payload ∷ ps) apart =
     ∙ of_hart-none other hart (number + 1) ps apart
 
 -- Items of a list.
-slice_past : {X : Type 0} (xs : List X) (i : ℕ) → length xs ≤ i → slice_get xs i ≡ None
-slice_past [] i past = refl
-slice_past (x ∷ xs) zero past = absurd (omega (arith, past))
-slice_past (x ∷ xs) (suc i) past = slice_past xs i (omega (arith, past))
-
-drop_front : {X : Type 0} (front rest : List X) → drop (length front) (front ++ rest) ≡ rest
-drop_front [] rest = refl
-drop_front (x ∷ front) rest = drop_front front rest
-
-set_past : {X : Type 0} (xs : List X) (i : ℕ) (x : X) → length xs ≤ i → set xs i x ≡ xs
-set_past [] i x past = refl
-set_past (y ∷ xs) zero x past = absurd (omega (arith, past))
-set_past (y ∷ xs) (suc i) x past = ap (λ l. y ∷ l) (set_past xs i x (omega (arith, past)))
-
 replicated : {X : Type 0} (n : ℕ) (x : X) (i : ℕ) (its : X) → slice_get (replicate n x) i ≡ Some its → its ≡ x
 replicated zero x i its at = cc
 replicated (suc n) x zero its at = sym (same_Some x its at)
@@ -108,9 +88,7 @@ messages_of-length hart ps = messages_from-length hart 0 (map payload_of ps) ∙
 -- What is left from an item on.
 drop_item : {X : Type 0} (i : ℕ) (xs : List X) (x : X) → i < length xs → x ≡ get_or xs i x
     → drop i xs ≡ x ∷ drop (i + 1) xs
-drop_item i xs x within is =
-    let next : suc i ≡ i + 1 = omega arith in
-    drop-cons xs i x within ∙ ap (λ y. y ∷ drop (suc i) xs) (sym is) ∙ ap (λ n. x ∷ drop n xs) next
+drop_item i xs x within is = drop_more xs i x within ∙ ap (λ y. y ∷ drop (i + 1) xs) (sym is)
 
 -- No packet is numbered.
 pub numbered_none : (numbers : Numbers) (old : Option (List ℕ)) → Numbered [] numbers numbers old old
@@ -150,7 +128,7 @@ numbered_both front back before mid after old between new one two =
       number = omega (arith, one.number, two.number, length-append front back);
       text =
           subst (Appends old new)
-          (sym (ap capture all ∙ capture-append first (messages_from mid.hart mid.number (map payload_of back))))
+          (sym (ap capture all ∙ joined first (messages_from mid.hart mid.number (map payload_of back))))
           (Appends-trans old between new (capture first) (capture (messages_from mid.hart mid.number (map payload_of
           back)))
           one.text two.text);
@@ -210,13 +188,20 @@ numbered_begun packets i packet before mid old between new within is has begins 
     let message : Message = record { hart = mid.hart; number = mid.number; payload = payload_of packet } in
     let later = messages_from mid.hart (mid.number + 1) (map payload_of rest) in
     subst (λ text. AppendsBeginning text old new)
-    (sym (ap capture whole ∙ capture-append first (message ∷ later)))
+    (sym (ap capture whole ∙ joined first (message ∷ later)))
     (begun_behind (capture first) (message_bytes message ++ capture later) old between new n.text
     (begun_in_front (message_bytes message) (capture later) between new (begins one)))
 
 -- Nothing was written.
 pub begun_none : (text : List ℕ) (old : Option (List ℕ)) → AppendsBeginning text old old
 begun_none text old = record { text = []; rest = text; parted = refl; appended = Appends-nil old }
+
+-- Messages that grow, and grow more.
+abbrev pub grows_both : (one two three : List Message) → Grows one two → Grows two three → Grows one three
+grows_both one two three first then = record {
+  more = first.more ++ then.more;
+  parted = then.parted ∙ ap (λ l. l ++ then.more) first.parted ∙ append_assoc one first.more then.more;
+}
 
 -- What one hart sends.
 module _ (words : Words) (plan : Plan) (hart : ℕ) where
@@ -241,7 +226,8 @@ module _ (words : Words) (plan : Plan) (hart : ℕ) where
         ∙ ap (λ l. drop (length before) l) (messages_of-append before ps)
         ∙ ap (λ n. drop n (messages_of hart before ++ messages_from hart (length before) (map payload_of ps)))
         (sym (messages_of-length hart before))
-        ∙ drop_front (messages_of hart before) (messages_from hart (length before) (map payload_of ps))
+        ∙ drop_at (messages_of hart before) (messages_from hart (length before) (map payload_of ps))
+        (length (messages_of hart before)) refl
 
     -- With those before they are all.
     all_between : messages_of hart (given words plan hart next)
@@ -371,7 +357,7 @@ module _ (words : Words) (plan : Plan) (hart : ℕ) where
     both =
         subst (λ s. capture (sent_between words plan hart s (closes s)) ≡ first s ++ second s) (sym fresh)
         (ap capture between_first
-        ∙ capture-append (sent_between words plan hart unsent (has_turn unsent))
+        ∙ joined (sent_between words plan hart unsent (has_turn unsent))
         (sent_between words plan hart (has_turn unsent) (closes (has_turn unsent))))
 
     -- It ran no event.
@@ -405,10 +391,7 @@ module _ (words : Words) (plan : Plan) (hart : ℕ) where
           where
             not_unsent : closes (has_turn unsent) ≡ unsent → ⊥
             not_unsent e = let turns : 1 ≡ 0 = ap (λ (s : Stand). s.turns) e in omega (arith, turns)
-        in_phase phase.Open is = absurd (not_open is.0)
-          where
-            not_open : true ≡ false → ⊥
-            not_open e = cc
+        in_phase phase.Open is = cc (is.0)
         in_phase phase.Closed is = refl
 
     pub sends_both : {E : Type 0} (r : Result Unit E)
@@ -546,7 +529,7 @@ module _ (words : Words) (plan : Plan) where
   goes_past on sent senders hart old are past =
       let out : length sent.stands ≤ hart = omega (arith, past, are.count) in
       let nothing : sent_by words plan on hart (slice_get sent.stands hart) ≡ [] =
-      ap (sent_by words plan on hart) (slice_past sent.stands hart out) in
+      ap (sent_by words plan on hart) (slice_get_past sent.stands hart out) in
       let stands : set sent.stands hart (on (get_or sent.stands hart unsent)) ≡ sent.stands =
       set_past sent.stands hart (on (get_or sent.stands hart unsent)) out in
       let messages : sent.messages ++ sent_by words plan on hart (slice_get sent.stands hart) ≡ sent.messages =
@@ -577,12 +560,8 @@ module _ (words : Words) (plan : Plan) where
   all_both first mid last between senders old then new one two = record {
     sent = two.sent;
     count = two.count ∙ one.count;
-    grows = record {
-      more = one.grows.more ++ two.grows.more;
-      parted = two.grows.parted ∙ ap (λ l. l ++ two.grows.more) one.grows.parted
-          ∙ append_assoc first.messages one.grows.more two.grows.more;
-    };
-    text = subst (Appends old new) (sym (capture-append one.grows.more two.grows.more))
+    grows = grows_both first.messages mid.messages last.messages one.grows two.grows;
+    text = subst (Appends old new) (sym (joined one.grows.more two.grows.more))
         (Appends-trans old then new (capture one.grows.more) (capture two.grows.more) one.text two.text);
   }
 
@@ -590,12 +569,8 @@ module _ (words : Words) (plan : Plan) where
   pub all_then_begun : (first mid last : Sent) (between : List Sender) (old then new : Option (List ℕ))
       → AllSend words plan first mid between old then → AllBegun mid last then new → AllBegun first last old new
   all_then_begun first mid last between old then new one two = record {
-    grows = record {
-      more = one.grows.more ++ two.grows.more;
-      parted = two.grows.parted ∙ ap (λ l. l ++ two.grows.more) one.grows.parted
-          ∙ append_assoc first.messages one.grows.more two.grows.more;
-    };
-    begun = subst (λ text. AppendsBeginning text old new) (sym (capture-append one.grows.more two.grows.more))
+    grows = grows_both first.messages mid.messages last.messages one.grows two.grows;
+    begun = subst (λ text. AppendsBeginning text old new) (sym (joined one.grows.more two.grows.more))
         (begun_behind (capture one.grows.more) (capture two.grows.more) old then new one.text two.begun);
   }
 
@@ -609,12 +584,8 @@ module _ (words : Words) (plan : Plan) where
 pub begun_longer : (first mid last : Sent) (old new : Option (List ℕ)) → AllBegun first mid old new
     → Grows mid.messages last.messages → AllBegun first last old new
 begun_longer first mid last old new one grows = record {
-  grows = record {
-    more = one.grows.more ++ grows.more;
-    parted = grows.parted ∙ ap (λ l. l ++ grows.more) one.grows.parted
-        ∙ append_assoc first.messages one.grows.more grows.more;
-  };
-  begun = subst (λ text. AppendsBeginning text old new) (sym (capture-append one.grows.more grows.more))
+  grows = grows_both first.messages mid.messages last.messages one.grows grows;
+  begun = subst (λ text. AppendsBeginning text old new) (sym (joined one.grows.more grows.more))
       (begun_in_front (capture one.grows.more) (capture grows.more) old new one.begun);
 }
 
@@ -642,11 +613,8 @@ module _ (words : Words) (plan : Plan) where
   pub none_yet : (senders : List Sender) → senders ≡ [] → HaveSentNone words plan 0 senders
   none_yet senders is = record {
     count = ap length is;
-    each = λ hart sender at. absurd (never hart sender (ap (λ l. slice_get l hart) (sym is) ∙ at));
+    each = λ hart sender at. cc (ap (λ l. slice_get l hart) (sym is) ∙ at);
   }
-    where
-      never : (hart : ℕ) (sender : Sender) → slice_get [] hart ≡ Some sender → ⊥
-      never hart sender e = cc
 
   -- Nor has one more.
   pub none_yet_more : (harts : ℕ) (senders after : List Sender) (sender : Sender) → after ≡ senders ++ sender ∷ []

@@ -80,14 +80,15 @@ has_turn stand = record stand { turns = if stand.is_closed then stand.turns else
 abbrev pub closes : Stand → Stand
 closes stand = record stand { is_closed = true }
 
--- The packets that a hart has given: while its trace is open a packet for each turn, of those that are known after the
--- events that it has run; then all of the log of these events.
+-- The packets whose messages a hart has sent after so many turns. While its trace is open these are the first that are
+-- known after the events that it has run, one for each turn; once it is closed, all packets of the log of these events.
 abbrev pub given_by : Bool → Words → Plan → ℕ → ℕ → List Packet
 given_by false words plan hart turns =
     take turns (known_packets words plan hart (events_for words plan hart turns))
 given_by true words plan hart turns =
     packets words plan.period plan.mode (events_of words plan hart (events_for words plan hart turns))
 
+-- The packets whose messages a hart has sent, by how far it is.
 unfoldable pub given : Words → Plan → ℕ → Stand → List Packet
 given words plan hart stand = given_by stand.is_closed words plan hart stand.turns
 
@@ -95,7 +96,8 @@ given words plan hart stand = given_by stand.is_closed words plan hart stand.tur
 abbrev pub messages_of : ℕ → List Packet → List Message
 messages_of hart ps = messages_from hart 0 (map payload_of ps)
 
--- The messages that a hart sends between one stand and the next: those of the packets that it has given more.
+-- The messages that a hart sends between one stand and the next: those of the packets that are given then and were not
+-- before.
 abbrev pub sent_between : Words → Plan → ℕ → Stand → Stand → List Message
 sent_between words plan hart stand next =
     drop (length (given words plan hart stand)) (messages_of hart (given words plan hart next))

@@ -54,14 +54,14 @@ mixed_from (suc count) mixed =
 unfoldable pub mixed_by : ℕ → List (List Message) → List Message
 mixed_by seed left = mixed_from most_turns (unmixed seed left)
 
--- The bytes begin with these messages, and after them with none.
+-- The bytes are those of these messages, and of what follows them no message is a prefix.
 pub record AreInFront (own : List Message) (bytes : List ℕ) : Type 0 where
   pub ranges : All IsMessage own
   pub rest : List ℕ
   pub parted : bytes ≡ capture own ++ rest
   pub no_more : (message : Message) (later : List ℕ) → IsMessage message → rest ≢ message_bytes message ++ later
 
--- So of each of these lists.
+-- Each of the lists of bytes begins with the messages of its own list, and there are as many of one as of the other.
 abbrev pub AllAreInFront : List (List Message) → List (List ℕ) → Type 0
 AllAreInFront [] [] = Unit {0}
 AllAreInFront [] (bytes ∷ others) = ⊥

@@ -143,12 +143,16 @@ steps words walk =
     let draw = pcg32 walk.random in
     steps_by words (nat_lt (draw.0 % 65536) (traps_of walk)) (record walk { random = draw.1 })
 
+-- The generator's stream of a hart. Lower streams are those of the slots of the program.
+abbrev pub stream_of : ℕ → ℕ
+stream_of hart = 65536 + hart
+
 -- The walk of a hart before its first event.
 abbrev pub first_walk : Extent → Mix → ℕ → ℕ → Walk
 first_walk extent mix seed hart = levels 3 (lands (record {
   extent = extent;
   habits = habits_of mix;
-  random = generator seed (65536 + hart);
+  random = generator seed (stream_of hart);
   at = 0;
   privilege = 3;
   is_free = true;

@@ -1,10 +1,10 @@
 -- What a walk keeps between two events.
-use Rattle.std.specs.Prelude.{◌≡◌, ℕ, ◌+◌, Option, Some, None}
+use Rattle.std.specs.Prelude.{◌≡◌, ℕ, Option, Some, None}
 use Rattle.rand_pcg.specs.Lcg.{increment_of}
 use Rattle.rvclass.specs.Fetch.{words_of}
 use Rattle.rvclass.specs.Image.{Image}
 use Rattle.stimulus.specs.Mix.{habits_of}
-use Rattle.stimulus.specs.Walk.{extent_of, first_walk, walked}
+use Rattle.stimulus.specs.Walk.{extent_of, first_walk, stream_of, walked}
 use Rattle.stimulus.specs.declared.mix.Mix.{Mix}
 use Rattle.stimulus.specs.declared.walk.Walk.{Walk}
 use Rattle.stimulus.specs.declared.walk.WalkState.{WalkState}
@@ -21,7 +21,7 @@ walk_of program mix seed hart None = first_walk (extent_of program) mix seed har
 walk_of program mix seed hart (Some kept) = record {
   extent = extent_of program;
   habits = habits_of mix;
-  random = record { state = kept.random; increment = increment_of 64 (65536 + hart) };
+  random = record { state = kept.random; increment = increment_of 64 (stream_of hart) };
   at = kept.at;
   privilege = kept.privilege;
   is_free = kept.is_free;

@@ -1,9 +1,11 @@
 //! Stimulus: programs, logs and captures that a number gives, for a path whose owner has no core.
 //!
 //! [`image_of`] returns the image of a program that a seed draws for a [`Mix`]. A [`Hart`] runs any program, draws what
-//! the program leaves open, and gives its events one at a time; whatever is drawn, they are a legal log. [`write_log`]
-//! writes such a log, and [`write_capture`] the messages of many harts, mixed as a path sees them. The draws are those
-//! of `docs/FORMATS.md`, so the same numbers give the same bytes. No list grows with the run.
+//! the program leaves open, and gives its events one at a time, at most 4,294,967,295; whatever is drawn, they are a legal
+//! log. A [`Walk`] gives the same events without an end, and its [`WalkState`] is what it keeps from one event to the next.
+//! [`write_log`] writes such a log, and [`write_capture`] the messages of many harts, mixed as a path sees them. A
+//! [`Mixing`] mixes messages that are there already in the same way. The draws are those of `docs/FORMATS.md`, so the same
+//! numbers give the same bytes. No list grows with the run.
 #![tactic(auto)]
 
 mod capturing;

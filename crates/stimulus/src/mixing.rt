@@ -29,9 +29,9 @@ pub struct Mixing<'a, A: Allocator> {
 }
 
 impl<'a, A: Allocator + Copy> Mixing<'a, A> {
-    /// The messages of harts, before any is written: of each hart those that its bytes begin with, as in a capture. Bytes
-    /// behind them are passed over. The seed decides how they are mixed. The error says that an allocation failed, or
-    /// that there are more than 65,535 harts.
+    /// The messages of harts, before any is written. The bytes of each hart are messages as a capture has them, one after
+    /// the other, without a header. What follows the last complete message is not looked at. The seed decides how the
+    /// messages are mixed. The error says that an allocation failed, or that there are more than 65,535 harts.
     pub fn new(alloc: A, seed: u64, harts: &'a [Vec<u8>]) -> Result<Mixing<'a, A>, AllocError>
         ensures messages { IfOk result (λ mixing. HaveMessages harts.entry.now) }
         ensures unmixed { (left : List (List AnyMessage)) → AreMessages left harts.entry.now

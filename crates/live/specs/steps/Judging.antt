@@ -1,7 +1,8 @@
 -- A message in view is taken.
 use Rattle.std.specs.Prelude.{ℕ, ◌+◌, ◌-◌, not, nat_lt, true, if◌then◌else◌, List, Option, Some, None, max}
 use Rattle.std.specs.Prelude.{slice_get, slice_set}
-use Rattle.std.specs.Str.{bytes_eq}
+use Rattle.payload.specs.Same.{same}
+use Rattle.payload.specs.declared.by.By.{By}
 use Rattle.auditing.specs.Audits.{capped}
 use Rattle.auditing.specs.declared.fate.Fate.{Fate}
 use Rattle.auditing.specs.declared.fate.Fate.TheVariants as fate
@@ -12,10 +13,10 @@ use Rattle.live.specs.declared.numbers.Numbers.{Numbers}
 use Rattle.live.specs.declared.held.SentMessage.{SentMessage}
 
 -- The fate of a message with this payload, by the message of SENT with its hart and number, but for whether it is late.
-abbrev pub mark_by : Option SentMessage → List ℕ → Fate
-mark_by None payload = fate.Stranger
-mark_by (Some slot) payload =
-    if not (bytes_eq payload slot.message.payload) then fate.Changed else
+abbrev pub mark_by : By → Option SentMessage → List ℕ → Fate
+mark_by how None payload = fate.Stranger
+mark_by how (Some slot) payload =
+    if not (same how slot.message.payload payload) then fate.Changed else
     if slot.came then fate.Repeat else
     fate.InOrder
 
@@ -54,4 +55,4 @@ taken_by own place hart number other = own
 
 -- The fate of a message that is in view at this place, but for whether it is late.
 abbrev pub mark_at : Holding → ℕ → List ℕ → Fate
-mark_at own place payload = mark_by (slice_get own.slots place) payload
+mark_at own place payload = mark_by own.by (slice_get own.slots place) payload

@@ -1,5 +1,6 @@
 -- SENT is read as far as it is looked at.
-use Rattle.std.specs.Prelude.{ℕ, ◌≡◌, ◌+◌, ◌++◌, Bool, true, false, List, [], ◌∷◌, Option, Some, None, Result, Ok, Err, length, slice_get, take}
+use Rattle.std.specs.Prelude.{ℕ, ◌≡◌, ◌+◌, ◌++◌, Bool, true, false, List, [], ◌∷◌, Option, Some, None, Result, Ok, Err}
+use Rattle.std.specs.Prelude.{length, slice_get, take}
 use Rattle.message.specs.declared.message.Message.{Message}
 use Rattle.auditing.specs.Fates.{is_numbered}
 use Rattle.live.specs.Following.{Audited, EndsWell, IsLookFault, Left, Reads, left_after}
@@ -32,4 +33,4 @@ ReadsOne all read came front (Ok false) own left =
     Reads all read came front own left × (read ≡ length all.sent)
 ReadsOne all read came front (Err why) own left =
     Holds (take read all.sent) came front own × (length own.harts ≡ all.harts) × (own.window ≡ all.window)
-    × IsLookFault all read why
+    × (own.by ≡ all.by) × IsLookFault all read why

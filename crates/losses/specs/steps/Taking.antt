@@ -11,6 +11,7 @@ use Rattle.message.specs.Accepted.{newcomers}
 use Rattle.message.specs.declared.message.Message.{Message}
 use Rattle.losses.specs.PartsIn.{parts_in}
 use Rattle.losses.specs.Runs.{Run, missing_behind, over_before, packets_behind, run_of}
+use Rattle.losses.specs.Stops.{AreAcceptedLossy}
 use Rattle.losses.specs.steps.Collecting.{IsNewPieces, IsNewTrace}
 use Rattle.losses.specs.steps.FollowingRuns.{FedRuns, FollowsEveryHart, FollowsRuns, IsMessageFault}
 use Rattle.losses.specs.declared.collecting.Collection.{Collection}
@@ -44,6 +45,14 @@ pub record IsNewCollection {A : Type 0} (harts : ℕ) (collection : Collection A
 abbrev pub Collects : {A : Type 0} → Image → Mode → List Message → Collection A → Type 0
 Collects program mode messages collection =
     FollowsEveryHart (words_of program) mode messages collection.demux collection.traces.items collection.pieces.items
+
+-- These messages of so many harts are in the collection, and a demultiplexer accepts them, one after the other.
+pub record HasCollected {A : Type 0} (program : Image) (mode : Mode) (harts : ℕ) (messages : List Message)
+    (collection : Collection A) : Type 0 where
+  pub of_any : Collects program mode messages collection
+  pub each_hart : HasEachHart collection
+  pub count : length collection.demux ≡ harts
+  pub accepted : AreAcceptedLossy (newcomers harts) messages
 
 -- A message was taken or refused. After any messages, it is collected, or the fault says why not.
 pub record CollectsMessage {A : Type 0} (program : Image) (mode : Mode) (message : Message) (old new : Collection A)

@@ -1,7 +1,6 @@
 -- The law is a recursion over the messages, which no search makes.
-use Rattle.std.proofs.Common.{◌≡◌, ◌∙◌, [], ap, sym}
+use Rattle.std.proofs.Common.{◌∙◌, [], ap, sym}
 use Rattle.payload.specs.declared.by.By.TheVariants as by
-use Rattle.message.specs.OfHart.{of_hart}
 use Rattle.auditing.proofs.AllWhole.{all_same}
 use Rattle.auditing.proofs.DecodedAgain.{decoded_again}
 use Rattle.auditing.proofs.KnownLemmas.{known-of_hart, known-turn}

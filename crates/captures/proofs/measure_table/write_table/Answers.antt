@@ -2,7 +2,6 @@
 use Rattle.std.proofs.Common.{◌≡◌, ◌<◌, ◌≤◌, ◌++◌, length, sym, subst, ap, ◌∙◌, arith}
 use Rattle.std.proofs.KnownBytes.{Appends-trans}
 use Rattle.std.proofs.lemmas.List.{append-nil}
-use Rattle.std.proofs.lemmas.Result.{on_ok_weaker}
 use Rattle.std.specs.Io.KnownBytes.{Appends}
 use Rattle.std.specs.Prelude.{codes}
 use Rattle.output.specs.Begun.{AppendsBeginning}
@@ -43,33 +42,35 @@ returns-then-count-le1-clause-begun g c =
     whole_begun (column_names ++ (hart_rows 0 each ++ total_row each)) (g.W.Write.contents c.args.sink.now)
     (g.W.Write.contents c.write_harts.new.sink) (returns-then-count-le1-clause-table g c)
 
+pub returns-in_err-write_text-clause-begun : goal.returns-in_err-write_text-clause-begun
+returns-in_err-write_text-clause-begun g c =
+    let each = g.H.Harts.each c.args.harts.now in
+    let mid = g.W.Write.contents c.write_column_names.new.sink in
+    let late = g.W.Write.contents c.write_harts.new.sink in
+    let new = g.W.Write.contents c.write_text.new.out in
+    let several : 1 < length each = omega (arith, c.count.ensures, c.if-count-le1.false) in
+    begun_behind column_names (hart_rows 0 each ++ total_row each) (g.W.Write.contents c.args.sink.now) mid new
+    c.in_ok-write_column_names.ensures.text
+    (begun_behind (hart_rows 0 each) (total_row each) mid late new c.in_ok-all.ensures.text
+    (subst (λ row. AppendsBeginning row late new)
+    (ap (measure_row (codes "all")) c.in_ok-all.ensures.all ∙ sym (total_row-several each several))
+    c.write_text.ensures.begun))
+
 pub returns-clause-table : goal.returns-clause-table
 returns-clause-table g c =
     let each = g.H.Harts.each c.args.harts.now in
-    let old = g.W.Write.contents c.args.sink.now in
     let mid = g.W.Write.contents c.write_column_names.new.sink in
     let late = g.W.Write.contents c.write_harts.new.sink in
-    let new = g.W.Write.contents c.write_row.new.sink in
+    let new = g.W.Write.contents c.write_text.new.out in
     let several : 1 < length each = omega (arith, c.count.ensures, c.if-count-le1.false) in
-    let last : measure_row (codes "all") c.in_ok-all.all ≡ total_row each =
-    ap (measure_row (codes "all")) c.in_ok-all.ensures.all ∙ sym (total_row-several each several) in
-    on_ok_weaker c.write_row.result
-    (λ (row : Appends late new (measure_row (codes "all") c.in_ok-all.all)).
-    Appends-trans old mid new column_names (hart_rows 0 each ++ total_row each) c.in_ok-write_column_names.ensures.text
+    Appends-trans (g.W.Write.contents c.args.sink.now) mid new column_names (hart_rows 0 each ++ total_row each)
+    c.in_ok-write_column_names.ensures.text
     (Appends-trans mid late new (hart_rows 0 each) (total_row each) c.in_ok-all.ensures.text
-    (subst (Appends late new) last row)))
-    c.write_row.ensures.text
+    (subst (Appends late new)
+    (ap (measure_row (codes "all")) c.in_ok-all.ensures.all ∙ sym (total_row-several each several))
+    c.in_ok-write_text.ensures.whole))
 
 pub returns-clause-begun : goal.returns-clause-begun
 returns-clause-begun g c =
-    let each = g.H.Harts.each c.args.harts.now in
-    let old = g.W.Write.contents c.args.sink.now in
-    let mid = g.W.Write.contents c.write_column_names.new.sink in
-    let late = g.W.Write.contents c.write_harts.new.sink in
-    let new = g.W.Write.contents c.write_row.new.sink in
-    let several : 1 < length each = omega (arith, c.count.ensures, c.if-count-le1.false) in
-    let last : measure_row (codes "all") c.in_ok-all.all ≡ total_row each =
-    ap (measure_row (codes "all")) c.in_ok-all.ensures.all ∙ sym (total_row-several each several) in
-    begun_behind column_names (hart_rows 0 each ++ total_row each) old mid new c.in_ok-write_column_names.ensures.text
-    (begun_behind (hart_rows 0 each) (total_row each) mid late new c.in_ok-all.ensures.text
-    (subst (λ row. AppendsBeginning row late new) last c.write_row.ensures.begun))
+    whole_begun _ (g.W.Write.contents c.args.sink.now) (g.W.Write.contents c.write_text.new.out)
+    (returns-clause-table g c)

@@ -1,9 +1,9 @@
 -- Where no message is known by its payload alone, numbers decide: by a lemma, which no search finds.
 use Rattle.std.proofs.Common.{◌≡◌, ◌∙◌, ◌-◌, ◌||◌, Bool, false, true, ℕ, List, ap, drop, length, sym, take, Some}
 use Rattle.std.proofs.lemmas.List.{take_rest}
+use Rattle.std.proofs.lemmas.Bool.{or_left}
 use Rattle.frames.proofs.GuidedTakenLemmas.{its}
 use Rattle.frames.proofs.KnownLemmas.{first_by_number}
-use Rattle.frames.proofs.TakenLemmas.{or_at_left}
 use Rattle.frames.specs.Frame.{message_size}
 use Rattle.frames.specs.GuidedTaken.{after, goes_on, is_counted_at, is_sent_at}
 use Rattle.frames.proofs.guided_taking.is_taken.Goals as goal
@@ -24,7 +24,7 @@ returns-then-goes_on g c =
     c.if-goes_on.true
     ∙ sym
     (first_by_number sees bytes (c.knows_none.ensures c.if-knows_none.true) (its bytes size begins).0
-    ∙ or_at_left (goes_on (after bytes)) _ goes)
+    ∙ or_left (goes_on (after bytes)) _ goes)
 
 pub returns-else-goes_on : goal.returns-else-goes_on
 returns-else-goes_on g c =

@@ -55,9 +55,10 @@ returns-in-Err g c = λ all read came front right reads.
       within = under.1.within;
       harts = one.1;
       window = one.2;
+      by = one.3;
       more = under.2;
       wanted = under.3;
-      fault = one.3;
+      fault = one.4;
     }
 
 pub loop-preserved : goal.loop-preserved
@@ -84,6 +85,7 @@ returns g c = λ all read came front right reads.
       within = under.1.within;
       harts = under.1.harts;
       window = under.1.window;
+      by = under.1.by;
       more = under.2;
       wanted = under.3;
       fault = tt;

@@ -3,7 +3,7 @@ use Rattle.std.proofs.Common.{◌≡◌, ◌∙◌, ◌++◌, [], None, Ok, ap, 
 use Rattle.std.proofs.lemmas.List.{drop_all}
 use Rattle.auditing.specs.Sent.{misplaced}
 use Rattle.live.specs.Following.{IsNext, IsSourceFault, Left}
-use Rattle.live.proofs.Following.{at_end, next_sent, refused_next}
+use Rattle.live.proofs.Following.{at_end, left_known, next_sent, refused_next}
 use Rattle.live.proofs.Reading.{placed_if}
 use Rattle.live.proofs.looking.next_sent.Goals as goal
 
@@ -12,7 +12,8 @@ returns-in-Some g c = λ all read came front right reads.
     let left = g.S.SentSource.left c.args.source.now in
     refused_next all right read came front c.args.window.now left reads c.in-Ok-Some.message
     (g.S.SentSource.left c.next.new.self)
-    (subst (λ o. IsNext (Ok o) left (g.S.SentSource.left c.next.new.self)) c.in-Ok-Some.field-0-is c.in-Ok-Some.ensures)
+    (subst (λ o. IsNext (Ok o) left (g.S.SentSource.left c.next.new.self)) c.in-Ok-Some.field-0-is c.in-Ok-Some.ensures
+    (left_known all right read came front c.args.window.now left reads))
     c.in-Some.why (sym c.refusal.ensures ∙ c.in-Some.is)
 
 pub returns-in-None : goal.returns-in-None
@@ -22,7 +23,8 @@ returns-in-None g c = λ all read came front right reads.
     let none = sym c.refusal.ensures ∙ c.in-None.is in
     let next =
     next_sent all right read came front c.args.window.now left reads message (g.S.SentSource.left c.next.new.self)
-    (subst (λ o. IsNext (Ok o) left (g.S.SentSource.left c.next.new.self)) c.in-Ok-Some.field-0-is c.in-Ok-Some.ensures)
+    (subst (λ o. IsNext (Ok o) left (g.S.SentSource.left c.next.new.self)) c.in-Ok-Some.field-0-is c.in-Ok-Some.ensures
+    (left_known all right read came front c.args.window.now left reads))
     (subst (λ n. misplaced n (take read all.sent) message ≡ None) reads.harts
     (placed_if (take read all.sent) came front c.args.window.now reads.holds message none)) in
     (next.0, next.1, none)
@@ -31,7 +33,9 @@ pub returns-in-Ok-None : goal.returns-in-Ok-None
 returns-in-Ok-None g c = λ all read came front right reads.
     let left = g.S.SentSource.left c.args.source.now in
     let new = g.S.SentSource.left c.next.new.self in
-    let none = subst (λ o. IsNext (Ok o) left new) c.in-Ok-None.field-0-is c.in-Ok-None.ensures in
+    let none =
+    subst (λ o. IsNext (Ok o) left new) c.in-Ok-None.field-0-is c.in-Ok-None.ensures
+    (left_known all right read came front c.args.window.now left reads) in
     let end : left.messages ≡ [] = ap (λ (l : Left). l.messages) none.0 in
     let read_all = at_end all right read came front c.args.window.now left reads end in
     let remains = sym none.0 ∙ reads.remains in (
@@ -47,4 +51,6 @@ returns-in-Ok-None g c = λ all read came front right reads.
 
 pub returns-in-Err : goal.returns-in-Err
 returns-in-Err g c = λ all read came front right reads.
-    subst (IsSourceFault c.in-Err.why) reads.remains c.in-Err.ensures
+    let left = g.S.SentSource.left c.args.source.now in
+    subst (IsSourceFault c.in-Err.why) reads.remains
+    (c.in-Err.ensures (left_known all right read came front c.args.window.now left reads))

@@ -13,7 +13,7 @@ returns-in-Ok g c = λ all read came front right reads place.
     (c.in-Ok-Some.ensures all read came front right reads) in
     reads_more all right read came front c.args.window.now (g.S.SentSource.left c.args.source.now) reads
     c.in-Ok-Some.message after c.read.new.self next.0 next.1
-    (c.in-Ok.ensures.read (take read all.sent) came front reads.holds) c.read.ensures.window c.read.ensures.harts
+    (c.in-Ok.ensures.read (take read all.sent) came front reads.holds) c.read.ensures.window c.read.ensures.harts c.read.ensures.by
 
 pub returns-in-Err-read : goal.returns-in-Err-read
 returns-in-Err-read g c = λ all read came front right reads place.
@@ -34,4 +34,4 @@ returns-in-Ok-None g c = λ all read came front right reads place.
 
 pub returns-in-Err : goal.returns-in-Err
 returns-in-Err g c = λ all read came front right reads place.
-    (reads.holds, reads.harts, reads.window, c.in-Err.ensures all read came front right reads)
+    (reads.holds, reads.harts, reads.window, reads.by, c.in-Err.ensures all read came front right reads)

@@ -1,9 +1,27 @@
 -- What the file gave is named by hand, and so are the lemmas on it.
-use Rattle.std.proofs.Common.{◌≡◌, None, subst}
+use Rattle.std.proofs.Common.{◌≡◌, None, inl, inr, refl, subst}
 use Rattle.log_streams.specs.Gave.{First, IsGiven, Whole}
 use Rattle.log_streams.specs.steps.Confirmed.{IsConfirmedBy}
 use Rattle.log_streams.proofs.FileLemmas.{all-through, made-given, made-in}
 use Rattle.log_streams.proofs.one_log.made_at.Goals as goal
+
+pub returns-in-Err : goal.returns-in-Err
+returns-in-Err g c = record { made = inl refl; given = inl refl; refused = tt }
+
+pub returns-in-Err-CannotRead-clause-given : goal.returns-in-Err-CannotRead-clause-given
+returns-in-Err-CannotRead-clause-given g c = inr (inl (refl, tt))
+
+pub returns-in-Err-Memory : goal.returns-in-Err-Memory
+returns-in-Err-Memory g c = record { made = inl refl; given = inl refl; refused = tt }
+
+pub returns : goal.returns
+returns g c = record { made = inl refl; given = inl refl; refused = tt }
+
+pub new-watched-requires-clause-leads : goal.new-watched-requires-clause-leads
+new-watched-requires-clause-leads g c = λ gave may. c.requires gave (c.in-Ok-open_file.ensures.gives.1 gave may)
+
+pub returns-then-is_confirmed-clause-refused : goal.returns-then-is_confirmed-clause-refused
+returns-then-is_confirmed-clause-refused g c = c.made_of-found.ensures.refused
 
 pub returns-then-is_confirmed-clause-made : goal.returns-then-is_confirmed-clause-made
 returns-then-is_confirmed-clause-made g c =

@@ -1,9 +1,45 @@
 -- What was made of each log gives what was made of all.
-use Rattle.std.proofs.Common.{rules, length}
+use Rattle.std.proofs.Common.{inl, length, refl, rules}
+use Rattle.log_streams.specs.Made.{IsMadeOf, IsMadeOfGiven}
 use Rattle.log_streams.specs.steps.Allowed.{IsMadeAt}
-use Rattle.log_streams.proofs.AllMadeLemmas.{at-index, has-next, made-of-all, made-up-to, may-stop}
+use Rattle.log_streams.proofs.AllMadeLemmas.{at-index, has-next, made-of-all, made-up-to, may-stop, none-made-of}
+use Rattle.log_streams.proofs.AllMadeLemmas.{none-refused}
 use Rattle.log_streams.proofs.MadeLemmas.{by-content, by-given, denied-at}
 use Rattle.log_streams.proofs.side_by_side_logs.made_of_logs.Goals as goal
+
+pub returns-in_default : goal.returns-in_default
+returns-in_default g c =
+    let makes = g.T.LogTask.Makes c.args.task.now c.args.program.now in
+    let illegal = g.T.LogTask.MakesOfIllegal c.args.task.now c.args.program.now in
+    let content = g.F.Files.content c.args.files.now in
+    let gives = g.F.Files.Gives c.args.files.now in
+    let program = c.args.program.now in
+    let none = c.none_made.ensures in
+    let made = c.none_made.result.made.items in record {
+      made = none-made-of c.args.paths.now _ none.fault
+          (λ path. IsMadeOf makes illegal (content path) program c.args.most) (λ path hart. inl refl) made none.none none.all;
+      given = none-made-of c.args.paths.now _ none.fault
+          (λ path. IsMadeOfGiven makes illegal (gives path) program c.args.most) (λ path hart. inl refl) made none.none
+          none.all;
+      refused = none-refused c.args.paths.now _ none.fault (g.T.LogTask.MayRefuse c.args.task.now);
+    }
+
+pub returns-in_default-by_place : goal.returns-in_default-by_place
+returns-in_default-by_place g c =
+    let makes = g.T.LogTask.Makes c.args.task.now c.args.program.now in
+    let illegal = g.T.LogTask.MakesOfIllegal c.args.task.now c.args.program.now in
+    let content = g.F.Files.content c.args.files.now in
+    let gives = g.F.Files.Gives c.args.files.now in
+    let program = c.args.program.now in
+    let none = c.none_made-in_default-by_place.ensures in
+    let made = c.none_made-in_default-by_place.result.made.items in record {
+      made = none-made-of c.args.paths.now _ none.fault
+          (λ path. IsMadeOf makes illegal (content path) program c.args.most) (λ path hart. inl refl) made none.none none.all;
+      given = none-made-of c.args.paths.now _ none.fault
+          (λ path. IsMadeOfGiven makes illegal (gives path) program c.args.most) (λ path hart. inl refl) made none.none
+          none.all;
+      refused = none-refused c.args.paths.now _ none.fault (g.T.LogTask.MayRefuse c.args.task.now);
+    }
 
 pub returns-in-Ok-take_made : goal.returns-in-Ok-take_made
 returns-in-Ok-take_made g c =

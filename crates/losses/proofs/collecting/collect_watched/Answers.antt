@@ -10,7 +10,7 @@ pub returns-in_err-collection-clause-memory : goal.returns-in_err-collection-cla
 returns-in_err-collection-clause-memory g c = λ period own logs of_logs count.
     let made = err_from_is_err_and c.from_residual.result c.from_residual.ensures.1 in
     rw (made.1, made.2) (memory_alone c.args.program.now period c.args.mode own logs c.args.messages.now of_logs
-    c.args.harts count _ c.in_err-collection.ensures.stops)
+    c.args.harts count _ c.in_err-collection.ensures)
 
 pub returns-clause-parts : goal.returns-clause-parts
 returns-clause-parts g c = λ period own logs of_logs count.

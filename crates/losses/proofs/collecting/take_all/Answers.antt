@@ -1,6 +1,6 @@
 -- Each message is taken behind those before it: by lemmas on lists, which no tactic finds.
-use Rattle.std.proofs.Common.{[], ◌∷◌, ◌++◌, take, length, sym, ap, subst, ◌∙◌}
-use Rattle.std.proofs.lemmas.List.{length-replicate, take_more}
+use Rattle.std.proofs.Common.{[], ◌≤◌, ◌∷◌, ◌++◌, take, length, sym, ap, subst, ◌∙◌, arith}
+use Rattle.std.proofs.lemmas.List.{length-replicate, take_all, take_more}
 use Rattle.std.proofs.lemmas.Result.{err_from_is_err_and}
 use Rattle.std.specs.Prelude.{IsOk}
 use Rattle.rvclass.specs.Fetch.{words_of}
@@ -27,8 +27,8 @@ loop-place-init g c =
       expected = new.demux;
     }
 
-pub returns-in_err-take-clause-stops : goal.returns-in_err-take-clause-stops
-returns-in_err-take-clause-stops g c =
+pub returns-in_err-take : goal.returns-in_err-take
+returns-in_err-take g c =
     let words = words_of c.args.program.now in
     let front = take c.loop-place.place c.args.messages.now in
     let before = c.loop-place.collection in
@@ -61,4 +61,17 @@ loop-place-preserved g c =
           (subst (λ hs. IsOk (accepting_lossy hs message)) inv.expected took.accepted));
       expected = took.expected ∙ ap (λ hs. harts_after_lossy hs message) inv.expected
           ∙ sym (expected-push harts front message) ∙ ap (expected_lossy harts) (sym more);
+    }
+
+pub returns : goal.returns
+returns g c =
+    let inv = c.loop-place.invariant in
+    let end = c.loop-place-test.false in
+    let past : length c.args.messages.now ≤ c.loop-place.place = omega (arith, end) in
+    let whole = take_all c.loop-place.place c.args.messages.now past in
+    record {
+      of_any = subst (λ ms. Collects c.args.program.now c.args.mode ms c.loop-place.collection) whole inv.of_any;
+      each_hart = inv.each_hart;
+      count = inv.count;
+      accepted = subst (AreAcceptedLossy (newcomers c.args.harts)) whole inv.accepted;
     }

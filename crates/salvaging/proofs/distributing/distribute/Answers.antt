@@ -1,7 +1,14 @@
--- A message more is distributed, by a lemma on lists.
-use Rattle.std.proofs.Common.{◌∙◌}
-use Rattle.salvaging.proofs.Distributed.{distributes_more}
+-- That nothing is distributed yet, and that a message more is, are lemmas on lists.
+use Rattle.std.proofs.Common.{sym, ◌∙◌}
+use Rattle.salvaging.proofs.Distributed.{distributes_more, distributes_none}
 use Rattle.salvaging.proofs.distributing.distribute.Goals as goal
+
+pub loop-message-init : goal.loop-message-init
+loop-message-init g c = (
+  sym c.in_ok-lists.lists.ok.0 ∙ c.in_ok-lists.ensures.len ∙ c.from.ensures,
+  distributes_none _ c.args.messages.now c.new.result c.in_ok-lists.lists.items c.new.ensures.items
+      c.in_ok-lists.ensures.items,
+)
 
 pub loop-message-preserved : goal.loop-message-preserved
 loop-message-preserved g c =

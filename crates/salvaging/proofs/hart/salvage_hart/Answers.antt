@@ -52,31 +52,24 @@ module _ (g : _) (c : After-as_slice-flags g) where
       upto_few (words_of c.args.program.now) c.args.mode (arrivals_in c.args.came.items) c.as_slice-ordered.result.now
       c.in_ok-worked.worked c.as_slice-ordered.ensures.value known
 
-pub reported_gaps-requires-clause-small : goal.reported_gaps-requires-clause-small
-reported_gaps-requires-clause-small g c =
-    let at = (goal.at.reported_gaps-requires-clause-small g c).After-as_slice-flags in
+pub report_of-requires-clause-small : goal.report_of-requires-clause-small
+report_of-requires-clause-small g c =
+    let at = (goal.at.report_of-requires-clause-small g c).After-as_slice-flags in
     upto_small (words_of c.args.program.now) c.args.mode (arrivals_in c.args.came.items) c.as_slice-ordered.result.now
     c.in_ok-worked.worked c.as_slice-ordered.ensures.value (known g at) c.requires.numbers
 
-pub reported_gaps-requires-clause-far : goal.reported_gaps-requires-clause-far
-reported_gaps-requires-clause-far g c =
-    let at = (goal.at.reported_gaps-requires-clause-far g c).After-as_slice-flags in
+pub report_of-requires-clause-far : goal.report_of-requires-clause-far
+report_of-requires-clause-far g c =
+    let at = (goal.at.report_of-requires-clause-far g c).After-as_slice-flags in
     let upto = few g at in
     let many = flags_many g at in
     omega (arith, upto, many)
 
-pub far_among-requires-clause-verdicts : goal.far_among-requires-clause-verdicts
-far_among-requires-clause-verdicts g c =
-    let at = (goal.at.far_among-requires-clause-verdicts g c).After-as_slice-flags in
+pub report_of-requires-clause-verdicts : goal.report_of-requires-clause-verdicts
+report_of-requires-clause-verdicts g c =
+    let at = (goal.at.report_of-requires-clause-verdicts g c).After-as_slice-flags in
     let upto = few g at in
     let many = verdicts_many g at in
-    omega (arith, upto, many)
-
-pub far_among-requires-clause-far : goal.far_among-requires-clause-far
-far_among-requires-clause-far g c =
-    let at = (goal.at.far_among-requires-clause-far g c).After-as_slice-flags in
-    let upto = few g at in
-    let many = flags_many g at in
     omega (arith, upto, many)
 
 pub late-late-requires-clause-verdicts : goal.late-late-requires-clause-verdicts
@@ -144,9 +137,9 @@ returns-clause-salvaged g c = λ messages placed.
       goods_are = refl;
       flags = worked.far.items;
       are_far = k.are_far;
-      gaps = c.in_ok-gaps.ensures ∙ ap (λ es. reported_gaps 0 es c.as_slice-flags.result.now) upto
+      gaps = c.in_ok-report.ensures.gaps ∙ ap (λ es. reported_gaps 0 es c.as_slice-flags.result.now) upto
           ∙ ap (reported_gaps 0 k.upto) flags;
-      far = c.in_ok-far.ensures
+      far = c.in_ok-report.ensures.far
           ∙ ap (λ es. far_among far_verdict es c.as_slice-verdicts.result.now c.as_slice-flags.result.now) upto
           ∙ ap (λ vs. far_among far_verdict k.upto vs c.as_slice-flags.result.now) verdicts
           ∙ ap (far_among far_verdict k.upto (map verdict_of (map treatment_of k.shares))) flags

@@ -1,14 +1,16 @@
 -- That none is treated yet, that one more is, and that all are, is found by lemmas on messages.
-use Rattle.std.proofs.Common.{rules, ◌<◌, ◌^◌, length, ◌∙◌}
+use Rattle.std.proofs.Common.{rules, ◌<◌, ◌^◌, length, replicate, ap, ◌∙◌}
 use Rattle.salvaging.proofs.TreatedAll.{few_counted, treated_end, treated_next, treated_start}
 use Rattle.salvaging.proofs.treating.treat_each.Goals as goal
 
 pub loop-message-init : goal.loop-message-init
-loop-message-init g c = (
-  treated_start c.args.harts c.args.messages.now c.args.sorted.now c.in_ok-counts.counts.items _
-      (c.in_ok-counts.ensures.count ∙ c.from.ensures) c.in_ok-counts.ensures.zero (search rules),
-  search rules,
-)
+loop-message-init g c =
+    let counts = c.in_ok-counts.ensures.items_if_clones_equal (λ y same. same)
+    ∙ ap (λ n. replicate n 0) c.from.ensures in (
+      treated_start c.args.harts c.args.messages.now c.args.sorted.now c.in_ok-counts.counts.items _ counts
+          (search rules),
+      search rules,
+    )
 
 pub treat_next-requires-clause-few : goal.treat_next-requires-clause-few
 treat_next-requires-clause-few g c =

@@ -5,11 +5,11 @@ use Rattle.std.specs.Prelude.{option_map}
 use Rattle.std.proofs.lemmas.Bool.{ltb-true}
 use Rattle.std.proofs.lemmas.List.{length-map}
 use Rattle.std.proofs.lemmas.List.FromFn.{length-range_with_len}
-use Rattle.std.proofs.lemmas.Option.{slice_get-get_or, slice_get-map}
+use Rattle.std.proofs.lemmas.Option.{slice_get-get_or, slice_get-map, same_Some}
 use Rattle.message.specs.declared.message.Message.{Message}
 use Rattle.auditing.proofs.Moves.{range_at}
 use Rattle.auditing.proofs.WholeTallies.{row_is}
-use Rattle.auditing.proofs.KnownLemmas.{known-at, known-count}
+use Rattle.auditing.proofs.KnownLemmas.{known-at, known-count, own-at}
 use Rattle.auditing.specs.Audits.{Audits, capped}
 use Rattle.auditing.specs.Exchanged.{moved}
 use Rattle.auditing.specs.HartRows.{row_of}
@@ -33,7 +33,7 @@ row_by sent received ledger audits hart own counts few within at found =
     let few_known : length others < 2 ^ 64 = omega (arith, few, same_count) in
     let below : hart < length harts = omega (arith, within, many) in
     let kept : counts ≡ map (λ other. capped (moved ones others hart other)) (range_with_len 0 (length harts)) =
-    same _ _ (sym found ∙ ap (λ moves. slice_get moves hart) audits.known.moves
+    same_Some _ _ (sym found ∙ ap (λ moves. slice_get moves hart) audits.known.moves
     ∙ range_at (λ one. map (λ other. capped (moved ones others one other)) (range_with_len 0 (length harts))) 0
     (length harts) hart below
     ∙ ap (λ one. Some (map (λ other. capped (moved ones others one other)) (range_with_len 0 (length harts))))
@@ -41,9 +41,6 @@ row_by sent received ledger audits hart own counts few within at found =
     ap (row_in own) kept
     ∙ row_is ones others hart (known_own how own) (audits.known.each hart (known_own how own)
     (known-at how ledger.harts hart own at)) few_known (length harts) audits.known.others
-  where
-    same : (a b : List ℕ) → Some a ≡ Some b → a ≡ b
-    same a b e = cc
 
 -- There are counts for each hart.
 moves_many : (sent received : List Message) (ledger : Ledger) → Audits sent received ledger
@@ -59,22 +56,16 @@ pub returns-in-Some : goal.returns-in-Some
 returns-in-Some g c = λ sent received audits few.
     let hart = c.args.hart in
     let own = c.index-own.result.now in
-    let harts = c.self.inside.harts.items in
     let moves = c.self.inside.moves.items in
     let counts = c.in-Some.moved.now in
-    let known = c.requires.known in
-    let count = ap (λ (l : Ledger). length l.harts) c.self.view_is in
-    let within : hart < length harts = omega (arith, known, count) in
-    let at : slice_get c.args.self.now.harts hart ≡ Some own =
-    ap (λ (l : Ledger). slice_get l.harts hart) (sym c.self.view_is)
-    ∙ slice_get-get_or harts hart own within ∙ ap Some (sym c.index-own.ensures) in
+    let at = own-at _ c.args.self.now hart own c.self.view_is c.requires.known c.index-own.ensures in
     let lookup = c.in-Some.ensures.lookup in
     let inside = ltb-true hart (length c.deref.result.now) (sym lookup.0) in
     let found : slice_get moves hart ≡ Some counts =
     (λ i. slice_get (sym c.deref.ensures.value i) hart)
     ∙ slice_get-get_or c.deref.result.now hart counts inside ∙ ap Some (sym lookup.1) in
     c.row.ensures ∙ ap (row_in own) c.as_slice.ensures.value
-    ∙ row_by sent received c.args.self.now audits hart own counts.items few known at
+    ∙ row_by sent received c.args.self.now audits hart own counts.items few c.requires.known at
     (ap (λ (l : Ledger). slice_get l.moves hart) (sym c.self.view_is)
     ∙ slice_get-map (λ own. own.items) moves hart ∙ ap (option_map (λ own. own.items)) found)
 

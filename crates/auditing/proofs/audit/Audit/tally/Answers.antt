@@ -1,10 +1,9 @@
 -- The tally is the one of the definition, by the law on what is kept.
-use Rattle.std.proofs.Common.{◌≡◌, ◌<◌, ◌^◌, ◌∙◌, Some, length, slice_get, ap, sym, arith}
-use Rattle.std.proofs.lemmas.Option.{slice_get-get_or}
+use Rattle.std.proofs.Common.{◌<◌, ◌^◌, ◌∙◌, length, arith}
 use Rattle.auditing.proofs.WholeTallies.{tally_is}
-use Rattle.auditing.proofs.KnownLemmas.{known-at, known-count}
+use Rattle.auditing.proofs.KnownLemmas.{known-at, known-count, own-at}
 use Rattle.auditing.specs.Known.{known_all}
-use Rattle.auditing.specs.Ledger.{Ledger, known_own}
+use Rattle.auditing.specs.Ledger.{known_own}
 use Rattle.auditing.proofs.audit.Audit.tally.Goals as goal
 
 pub returns : goal.returns
@@ -14,12 +13,6 @@ returns g c = λ sent received audits few.
     let few_known : length (known_all how received) < 2 ^ 64 = omega (arith, few, same_count) in
     let hart = c.args.hart in
     let own = c.index-own.result.now in
-    let harts = c.self.inside.harts.items in
-    let known = c.requires.known in
-    let count = ap (λ (l : Ledger). length l.harts) c.self.view_is in
-    let within : hart < length harts = omega (arith, known, count) in
-    let at : slice_get c.args.self.now.harts hart ≡ Some own =
-    ap (λ (l : Ledger). slice_get l.harts hart) (sym c.self.view_is)
-    ∙ slice_get-get_or harts hart own within ∙ ap Some (sym c.index-own.ensures) in
+    let at = own-at _ c.args.self.now hart own c.self.view_is c.requires.known c.index-own.ensures in
     c.tally.ensures ∙ tally_is (known_all how sent) (known_all how received) hart (known_own how own)
     (audits.known.each hart (known_own how own) (known-at how c.args.self.now.harts hart own at)) few_known

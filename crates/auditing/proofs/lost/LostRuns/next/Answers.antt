@@ -13,7 +13,7 @@ split_at-requires c =
 
 pub split_at-requires-2 : goal.split_at-requires-2
 split_at-requires-2 c =
-    let is = c.first_come.ensures in
+    let is = c.first_set.ensures in
     let within = prefix_len-le-length (λ flag. not flag) c.split_at.result.1.now in
     omega (arith, is, within)
 
@@ -24,8 +24,8 @@ returns-then-is_empty-clause-next c =
     sym c.self.view_is
     ∙ next_run c.self.inside.number flags left c.split_at-2.result.0.now c.split_at-2.result.1.now _ _ _
     (c.split_at.ensures.back ∙ ap (λ n. drop n flags) c.first_lost.ensures)
-    (c.split_at-2.ensures.front ∙ ap (λ n. take n left) c.first_come.ensures)
-    (c.split_at-2.ensures.back ∙ ap (λ n. drop n left) c.first_come.ensures)
+    (c.split_at-2.ensures.front ∙ ap (λ n. take n left) c.first_set.ensures)
+    (c.split_at-2.ensures.back ∙ ap (λ n. drop n left) c.first_set.ensures)
     refl refl (sym c.is_empty.ensures ∙ c.if-is_empty.true)
 
 pub returns-clause-next : goal.returns-clause-next
@@ -35,8 +35,8 @@ returns-clause-next c =
     sym c.self.view_is
     ∙ next_run c.self.inside.number flags left c.split_at-2.result.0.now c.split_at-2.result.1.now _ _ _
     (c.split_at.ensures.back ∙ ap (λ n. drop n flags) c.first_lost.ensures)
-    (c.split_at-2.ensures.front ∙ ap (λ n. take n left) c.first_come.ensures)
-    (c.split_at-2.ensures.back ∙ ap (λ n. drop n left) c.first_come.ensures)
+    (c.split_at-2.ensures.front ∙ ap (λ n. take n left) c.first_set.ensures)
+    (c.split_at-2.ensures.back ∙ ap (λ n. drop n left) c.first_set.ensures)
     refl refl (sym c.is_empty.ensures ∙ c.if-is_empty.false)
 
 pub returns-then-is_empty-clause-end : goal.returns-then-is_empty-clause-end
@@ -46,5 +46,5 @@ returns-then-is_empty-clause-end c = λ none.
     sym c.self.view_is
     ∙ none_left c.self.inside.number flags left c.split_at-2.result.0.now
     (c.split_at.ensures.back ∙ ap (λ n. drop n flags) c.first_lost.ensures)
-    (c.split_at-2.ensures.front ∙ ap (λ n. take n left) c.first_come.ensures)
+    (c.split_at-2.ensures.front ∙ ap (λ n. take n left) c.first_set.ensures)
     (sym c.is_empty.ensures ∙ c.if-is_empty.true)

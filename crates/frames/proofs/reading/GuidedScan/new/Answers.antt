@@ -1,15 +1,15 @@
 -- Messages are found each at its place: by lemmas on messages among bytes.
-use Rattle.std.proofs.Common.{◌∙◌, drop, ap, arith}
+use Rattle.std.proofs.Common.{◌∙◌, drop, ap, arith, refl}
 use Rattle.std.proofs.lemmas.List.{length-drop}
 use Rattle.frames.specs.Passages.{spans_from}
 use Rattle.frames.proofs.AmidLemmas.{amid, complete}
-use Rattle.frames.proofs.PassageLemmas.{spans-least}
+use Rattle.frames.proofs.SpanLemmas.{least_place}
 use Rattle.frames.proofs.reading.GuidedScan.new.Goals as goal
 
 pub returns-clause-spans : goal.returns-clause-spans
 returns-clause-spans c = λ sees.
     ap (λ at. spans_from sees at (drop at c.args.bytes.now)) c.min.ensures
-    ∙ spans-least sees c.args.from c.args.bytes.now
+    ∙ least_place (spans_from sees) (λ at. refl) c.args.from c.args.bytes.now
 
 pub returns-clause-complete : goal.returns-clause-complete
 returns-clause-complete c = λ sees messages none all is.

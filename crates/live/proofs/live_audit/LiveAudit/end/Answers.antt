@@ -1,11 +1,14 @@
 -- RECEIVED ends: by lemmas on steps, which no tactic finds.
-use Rattle.std.proofs.Common.{◌≡◌, ◌∙◌, ap, length, subst, sym}
+use Rattle.std.proofs.Common.{◌≡◌, ◌≤◌, ◌∙◌, ℕ, arith, ap, length, subst, sym}
 use Rattle.live.specs.Auditing.{GoesTo, LiveHolding, Stands, StopsNear, moves_near}
 use Rattle.live.specs.Live.{Step, finished, read_up_to}
 use Rattle.live.specs.steps.Advancing.{NoneBefore}
 use Rattle.live.proofs.Ending.{ends_on, none_known, reads_all}
 use Rattle.live.proofs.Steps.{stops_near}
 use Rattle.live.proofs.live_audit.LiveAudit.end.Goals as goal
+
+whole_length : (count : ℕ) → count ≤ count
+whole_length count = omega arith
 
 pub returns-in-Ok : goal.returns-in-Ok
 returns-in-Ok g c = λ all read state right stood.
@@ -24,7 +27,7 @@ returns-in-Ok g c = λ all read state right stood.
     subst (λ n. GoesTo all n (λ told. g.L.LiveLines.Told c.args.lines.now told c.read_on.new.lines) (moves_near all n state)
     c.read_on.new.self after) to on.0 in
     let near = moves_near all (length all.sent) state in (
-      subst (λ (step : Step). g.L.LiveLines.Told c.args.lines.now step.lines c.finish.new.lines) (sym (ends_on all state))
+      subst (λ (step : Step). g.L.LiveLines.Told c.args.lines.now step.lines c.finish.new.lines) (sym (ends_on all state (length all.sent) (whole_length (length all.sent))))
           (g.met.L.LiveLines.joined c.args.lines.now c.read_on.new.lines c.finish.new.lines near.lines
           (finished all.harts all.window all.sent near.state).lines goes.told
           (c.finish.ensures all near.state after right goes.stands)),
@@ -47,6 +50,6 @@ returns-in-Err g c = λ all read state right stood.
     subst (λ n. StopsNear all (λ told. g.L.LiveLines.Told c.args.lines.now told c.read_on.new.lines) state
     (moves_near all n state) c.in-Err.why) to on in
     subst (λ step. StopsNear all (λ told. g.L.LiveLines.Told c.args.lines.now told c.read_on.new.lines) state step c.in-Err.why)
-    (sym (ends_on all state))
+    (sym (ends_on all state (length all.sent) (whole_length (length all.sent))))
     (stops_near all (λ told. g.L.LiveLines.Told c.args.lines.now told c.read_on.new.lines) state
     (moves_near all (length all.sent) state) (λ next. finished all.harts all.window all.sent next) c.in-Err.why stops)

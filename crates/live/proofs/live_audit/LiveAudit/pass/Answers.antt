@@ -28,10 +28,10 @@ returns-in-Some g c = λ all read state left message right stands before is.
     let slot = c.in-Some.slot in
     let counted =
     pass_counted all right read state left message before own Told goes c.pass.new.self holds c.pass.ensures.window
-    c.pass.ensures.harts c.pass.result given slot c.in-Some.is in
+    c.pass.ensures.harts c.pass.ensures.by c.pass.result given slot c.in-Some.is in
     let gave = c.give.ensures.given moved goes.stands.runs counted in
     pass_some all right read state left message before own Told goes c.pass.new.self holds c.pass.ensures.window
-    c.pass.ensures.harts c.pass.result given slot c.in-Some.is c.give.new.runs.items c.give.ensures.count gave.1
+    c.pass.ensures.harts c.pass.ensures.by c.pass.result given slot c.in-Some.is c.give.new.runs.items c.give.ensures.count gave.1
     (λ told. g.L.LiveLines.Told c.args.lines.now told c.give.new.lines)
     (g.met.L.LiveLines.joined c.args.lines.now c.meet.new.lines c.give.new.lines first.lines
     (gives moved slot).lines goes.told gave.0)
@@ -54,4 +54,4 @@ returns-in-None g c = λ all read state left message right stands before is.
     let holds = c.pass.ensures.passed some now.came now.front goes.stands.reads.holds within in
     let given = c.pass.ensures.given some now.came now.front goes.stands.reads.holds within in
     pass_none all right read state left message before own Told goes c.pass.new.self holds c.pass.ensures.window
-    c.pass.ensures.harts c.pass.result given c.in-None.is
+    c.pass.ensures.harts c.pass.ensures.by c.pass.result given c.in-None.is

@@ -30,7 +30,7 @@ returns-in-Ok-Some g c = λ all read state right stood.
     read_last all right read state own left stands c.in-Ok-Some.message next.2 Told placed place after
     c.read_placed.new.window next.0 next.1 c.args.hart c.args.number c.read_placed.result
     (c.read_placed.ensures.read (take read all.sent) moved.came moved.front place.0.stands.reads.holds)
-    c.read_placed.ensures.window c.read_placed.ensures.harts
+    c.read_placed.ensures.window c.read_placed.ensures.harts c.read_placed.ensures.by
 
 pub returns-in-Ok-None : goal.returns-in-Ok-None
 returns-in-Ok-None g c = λ all read state right stood.
