@@ -48,9 +48,9 @@ BODIES = [
     ("bench of three logs at a period of its own always Memory", "log_commands", "benching.rt",
         *memory_first(CONFIG, "asked.period != 1024 && logs.len() > 2")),
     ("check --explain Output past row 3", "log_commands", "checking.rt",
-        "    match explain_row(\n",
-        "    if row.fault.row > 3 {\n        return Err(Fault::Output);\n    }\n"
-        "    match explain_row(\n"),
+        "    explain_row(\n",
+        "    if row.fault.row > 3 {\n        return Err(WriteFault::Write);\n    }\n"
+        "    explain_row(\n"),
     ("list Memory past 4,096 bytes", "capture_commands", "message_listing.rt",
         *memory_first("    write_listing(alloc, progress, asked, harts, input, out)\n", "input.bytes.len() > 4096")),
     ("the salvage of the program Memory past 3 harts", "capture_commands", "salvaging_capture.rt",
