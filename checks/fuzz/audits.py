@@ -16,20 +16,26 @@ def judged(capture):
     except reading.NoHeader as why:
         raise reading.Refused(str(why)) from None
     own = [[] for _ in range(header[2] if header else reading.MOST_HARTS)]
-    highest = -1
+    for hart, _, payload in in_turn(capture, at, [0] * len(own)):
+        own[hart].append(payload)
+    return header, own if header else own[: max((hart + 1 for hart, payloads in enumerate(own) if payloads), default=0)]
+
+
+def in_turn(capture, at, counts):
+    """The messages of a capture from a place on, each the next one of its hart, which are counted; Refused at the first that
+    is not."""
     for place, message in enumerate(reading.messages(capture, at)):
         if isinstance(message, str):
             raise reading.Refused(f"message {place}: {message}")
-        hart, number, payload = message
-        if hart >= len(own):
+        hart, number, _ = message
+        if hart >= len(counts):
             raise reading.Refused(f"message {place}: stranger")
-        if number < len(own[hart]):
+        if number < counts[hart]:
             raise reading.Refused(f"message {place}: repeat")
-        if number > len(own[hart]):
-            raise reading.Refused(f"message {place}: gap, expected number {len(own[hart])}")
-        own[hart].append(payload)
-        highest = max(highest, hart)
-    return header, own if header else own[: highest + 1]
+        if number > counts[hart]:
+            raise reading.Refused(f"message {place}: gap, expected number {counts[hart]}")
+        counts[hart] += 1
+        yield message
 
 
 HEAD = 11
@@ -48,10 +54,16 @@ class Sent:
         return message[0] < len(self.own) and message[1] < len(self.own[message[0]])
 
     def is_true(self, message):
-        if not self.has(message):
-            return False
-        sent, came = self.own[message[0]][message[1]], message[2]
-        return sent == came or self.packets and (packet := packet_of(sent)) is not None and packet == packet_of(came)
+        return self.has(message) and is_same(self.own[message[0]][message[1]], message[2], self.packets)
+
+    def shows_outage(self, data, at):
+        """Whether messages from a place on show that the path was out. All of SENT is known, so none do."""
+        return False
+
+
+def is_same(sent, came, packets):
+    """Whether a payload that came is the one that was sent, or unpacks to its packet where that is asked for."""
+    return sent == came or packets and (packet := packet_of(sent)) is not None and packet == packet_of(came)
 
 
 def packet_of(payload):
@@ -81,18 +93,23 @@ def is_backed(sent, data, at):
     return sent.has(message) or after == len(data) or message_at(data, after) is not None
 
 
+def resumes(sent, data, at):
+    """Whether reading goes on at a place after damage: a true message is there, or messages that show an outage."""
+    return bool(message := message_at(data, at)) and (sent.is_true(message) or sent.shows_outage(data, at))
+
+
 def read(sent, data, at):
     """From a place on, each message that is taken, and the count of the bytes of each run between, after their
     offsets."""
     while at < len(data):
         message = message_at(data, at)
-        if message and (sent.is_true(message) or is_backed(sent, data, at + HEAD + len(message[2]))):
+        if message and (sent.is_true(message) or is_backed(sent, data, at + HEAD + len(message[2])) or sent.shows_outage(data, at)):
             yield at, message
             at += HEAD + len(message[2])
             continue
         run = at
         at += 1
-        while at < len(data) and not ((message := message_at(data, at)) and sent.is_true(message)):
+        while at < len(data) and not resumes(sent, data, at):
             at += 1
         yield run, at - run
 

@@ -21,6 +21,7 @@ FLAGS = {
     "dumps": ("--search",),
     "unnumbered": ("--unnumbered", "--packets", "--summary"),
     "parts": (*FORMS, *PERIODS, *FEW_PARTS, *(f"--first {hart}" for hart in range(8))),
+    "live": ("--live", "--packets", "--summary", *(f"--window {count}" for count in range(1, 9))),
     "tables": ("--format text", "--format csv", "--packets", "--summary", "--unnumbered"),
     "comparisons": ("--explain", "--long", "--progress", *(f"--harts {count}" for count in comparisons.ASKED_HARTS)),
     "threads": ("--full", *PERIODS, *FEW_CAPACITIES),
@@ -31,7 +32,7 @@ FLAGS = {
     ),
 }
 # The flags that a value follows.
-VALUED = ("--base", "--period", "--harts", "--symbols", "--first", "--of", "--format", "--capacity")
+VALUED = ("--base", "--period", "--harts", "--symbols", "--first", "--of", "--format", "--capacity", "--window")
 
 
 def flags_of(words):

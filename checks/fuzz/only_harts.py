@@ -5,7 +5,7 @@ import collections
 # What is done with some harts of a capture: a case of another kind, and the first and the last of these harts.
 Case = collections.namedtuple("Case", "kind case only")
 
-KINDS = ("captures", "captures", "lists", "salvages", "treated", "dumps", "audits", "unnumbered", "comparisons")
+KINDS = ("captures", "captures", "lists", "salvages", "treated", "dumps", "audits", "unnumbered", "live", "comparisons")
 
 
 def any_range(random, harts):

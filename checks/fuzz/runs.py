@@ -12,6 +12,7 @@ import explained
 import line_texts
 import list_tables
 import lists
+import live_audits
 import measures
 import memories
 import only_harts
@@ -145,6 +146,14 @@ def table_of(text, whole, unnumbered):
             return text[0], f"{why}\n".encode(), text[2]
         return text[0], answer, text[2]
     return wanted
+
+
+def of_live(maker, _, pair, only=None, asked=()):
+    """What a live audit of a pair of captures prints, with a small window, complete and in a summary."""
+    window, packets = maker.random.randint(1, 8), maker.random.choice(([], ["--packets"]))
+    words = ["audit", "--live", "--window", str(window), *packets, *asked, audits.SENT, audits.RECEIVED]
+    for summary in ([], ["--summary"]):
+        yield texts([*words, *summary], live_audits.audit(*pair, window, bool(summary), bool(packets), only))
 
 
 def of_salvaged(maker, harts, capture, only=None, asked=()):
@@ -334,7 +343,7 @@ def files_of(kind, case):
     if kind == "comparisons":
         _, capture, logs = case
         return {comparisons.CAPTURE: capture} | {comparisons.name_of(hart): text for hart, text in enumerate(logs)}
-    if kind in ("audits", "unnumbered", "tables"):
+    if kind in ("audits", "unnumbered", "tables", "live"):
         return {audits.SENT: case[0], audits.RECEIVED: case[1]}
     if kind in ("lists", "treated"):
         return {lists.CAPTURE: case[0]} | ({} if case[1] is None else {lists.SYMBOLS: case[1]})
@@ -356,7 +365,7 @@ OF_CASE = {
     "captures": of_capture, "logs": of_log, "audits": of_pair, "measures": of_measured, "lists": of_listed,
     "salvages": of_salvaged, "lines": of_lines, "dumps": of_searched, "unnumbered": of_unnumbered, "parts": of_parts,
     "tables": of_table, "treated": of_treated, "comparisons": of_comparison, "threads": of_threads,
-    "memories": of_memories, "only": of_only,
+    "memories": of_memories, "only": of_only, "live": of_live,
 }
 
 

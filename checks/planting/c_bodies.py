@@ -19,12 +19,11 @@ BODIES = [
         "        repeated: tally.late,\n        late: tally.repeated,\n"),
     ("statuses of repeats and gaps exchanged", "ffi", "status.rt",
         "pub const REPEAT: u32 = 97;", "pub const REPEAT: u32 = 98;",
-        "pub const GAP: u32 = 98;", "pub const GAP: u32 = 97;",
-        "        && STRANGER < REPEAT\n        && REPEAT < GAP\n        && GAP < AFTER_CLOSE\n",
-        "        && STRANGER < GAP\n        && GAP < REPEAT\n        && REPEAT < AFTER_CLOSE\n"),
+        "pub const GAP: u32 = 98;", "pub const GAP: u32 = 97;"),
     ("tracebench_check MEMORY past 65,536 events", "ffi", "checking.rt",
-        "    Ok(events.len() as u64)\n",
-        "    if events.len() > 65_536 {\n        return Err(Fault::Memory);\n    }\n    Ok(events.len() as u64)\n"),
+        "    check(program, events.as_slice())?;\n",
+        "    check(program, events.as_slice())?;\n"
+        "    if events.len() > 65_536 {\n        return Err(Fault::Memory);\n    }\n"),
     *(("tracebench_encode MEMORY " + where, "ffi", "encoding.rt",
         "    let mut capture = Vec::new(alloc);\n",
         f"    if {test} {{\n        return Err((0, Fault::Memory));\n    }}\n    let mut capture = Vec::new(alloc);\n")
@@ -36,11 +35,13 @@ BODIES = [
             ("past 65,536 bytes of texts", "ends.last().copied().unwrap_or(0) > 65_536"),
         )),
     ("tracebench_encode without the mode", "ffi", "encoding.rt",
-        "    match encode_each(alloc, program, logs, ends, period, mode, &mut capture) {\n",
-        "    match encode_each(alloc, program, logs, ends, period, Mode::Differential, &mut capture) {\n"),
+        "    match encode_each(alloc, program, logs, ends, settings, &mut capture) {\n",
+        "    let settings = Settings {\n        mode: Mode::Differential,\n        ..settings\n    };\n"
+        "    match encode_each(alloc, program, logs, ends, settings, &mut capture) {\n"),
     ("tracebench_encode without the period", "ffi", "encoding.rt",
-        "    match encode_each(alloc, program, logs, ends, period, mode, &mut capture) {\n",
-        "    match encode_each(alloc, program, logs, ends, 1024, mode, &mut capture) {\n"),
+        "    match encode_each(alloc, program, logs, ends, settings, &mut capture) {\n",
+        "    let settings = Settings {\n        period: 1024,\n        ..settings\n    };\n"
+        "    match encode_each(alloc, program, logs, ends, settings, &mut capture) {\n"),
     ("tracebench_dump MEMORY past 65,536 bytes", "ffi", "dumping.rt",
         "    let mut text = Vec::new(alloc);\n",
         "    if capture.len() > 65_536 {\n        return MEMORY;\n    }\n    let mut text = Vec::new(alloc);\n"),
@@ -64,11 +65,11 @@ BODIES = [
         "    if events.len() > 10_000 {\n        return MEMORY;\n    }\n    let mut walk = Walk::of("),
     ("tracebench_receive MEMORY past 65,536 events", "ffi", "feeding.rt",
         "        Ok(numbers) => Ok(FedPayload { numbers, events }),\n",
-        "        Ok(_) if events.len() > 65_536 => Err(FeedFault::Decode(DecodeFault::Memory)),\n"
+        "        Ok(_) if events.len() > 65_536 => Err(Fault::Decode(DecodeFault::Memory)),\n"
         "        Ok(numbers) => Ok(FedPayload { numbers, events }),\n"),
     ("tracebench_capture_of_lines MEMORY past 65,536 bytes", "ffi", "lines.rt",
         "        Ok(()) => Ok(capture),\n",
-        "        Ok(()) if text.len() > 65_536 => Err(LinesRefusal::Memory),\n        Ok(()) => Ok(capture),\n"),
+        "        Ok(()) if text.len() > 65_536 => Err(Fault::Memory),\n        Ok(()) => Ok(capture),\n"),
     *(("tracebench_audit_all MEMORY " + where, "ffi", "path_all.rt",
         "    let rows = rows_of(alloc, &path)?;\n",
         f"    if {test} {{\n        return Err(SentFault::Memory);\n    }}\n    let rows = rows_of(alloc, &path)?;\n")
@@ -98,7 +99,7 @@ BODIES = [
         )),
     *(("tracebench_salvage MEMORY " + where, "ffi", "salvaging_capture.rt",
         "    let mut text = Vec::new(alloc);\n",
-        f"    if {test} {{\n        return Err(TextFault::Of(Fault::Memory));\n    }}\n"
+        f"    if {test} {{\n        return Err(Fault::Memory);\n    }}\n"
         "    let mut text = Vec::new(alloc);\n")
         for where, test in (
             ("past 65,536 bytes", "capture.len() > 65_536"),
@@ -122,7 +123,7 @@ BODIES = [
         )),
     *(("tracebench_compare MEMORY " + where, "ffi", "comparing_logs.rt",
         "    if ends.len() != outcome.harts.len() {\n",
-        f"    if {test} {{\n        return Err((0, TextFault::Of(Fault::Memory)));\n    }}\n"
+        f"    if {test} {{\n        return Err((0, Fault::Memory));\n    }}\n"
         "    if ends.len() != outcome.harts.len() {\n")
         for where, test in (
             ("past 64 harts", "outcome.harts.len() > 64"),
@@ -131,8 +132,8 @@ BODIES = [
     *((f"{call} MEMORY past three pieces", "ffi", file, line,
         f"    if pieces.len() > 3 {{\n        return crate::status::MEMORY;\n    }}\n{line}")
         for call, file, line in (
-            ("tracebench_check", "checking.rt", JUDGED + "    report_check(alloc, "),
-            ("tracebench_check_events", "checking.rt", JUDGED + "    report_check_events("),
+            ("tracebench_check", "checking.rt", JUDGED + "    report_checked(check_log("),
+            ("tracebench_check_events", "checking.rt", JUDGED + "    report_checked(check_numbers("),
             ("tracebench_explain", "explaining_log.rt", JUDGED),
             ("tracebench_encode", "encoding.rt", JUDGED),
             ("tracebench_measure", "measuring_logs.rt", JUDGED),

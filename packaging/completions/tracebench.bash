@@ -20,7 +20,7 @@ _tracebench() {
     decode) options="--base --also --harts --only --lossy --progress --help" ;;
     replay) options="--base --also --period --full --capacity --progress --help" ;;
     bench) options="--base --also --period --full --capacity --progress --help" ;;
-    audit) options="--packets --unnumbered --only --summary --format --progress --help" ;;
+    audit) options="--packets --unnumbered --live --window --only --summary --format --progress --help" ;;
     measure) options="--base --also --period --full --long --progress --help" ;;
     list) options="--base --also --harts --only --symbols --rows --salvage --format --progress --help" ;;
     salvage) options="--base --also --harts --only --symbols --summary --format --progress --help" ;;
@@ -40,7 +40,7 @@ _tracebench() {
         previous=${COMP_WORDS[COMP_CWORD - 2]}
     fi
     case $previous in
-    --also | --base | --burst | --capacity | --events | --first | --format | --hart | --harts | --messages | --mix | --mixed | --number-bits | --of | --only | --period | --seed) return ;;
+    --also | --base | --burst | --capacity | --events | --first | --format | --hart | --harts | --messages | --mix | --mixed | --number-bits | --of | --only | --period | --seed | --window) return ;;
     esac
     case $current in
     -*) mapfile -t COMPREPLY < <(compgen -W "$options" -- "$current") ;;

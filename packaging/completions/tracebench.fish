@@ -79,6 +79,8 @@ complete -c tracebench -n '__tracebench_given bench' -l progress -d 'Show how fa
 complete -c tracebench -n '__tracebench_given audit' -F
 complete -c tracebench -n '__tracebench_given audit' -l packets -d 'Compare messages by the packets that they unpack to, not by their bytes'
 complete -c tracebench -n '__tracebench_given audit' -l unnumbered -d 'Do not look at the numbers of RECEIVED: align what came with what was sent'
+complete -c tracebench -n '__tracebench_given audit' -l live -d 'Read both files side by side as they come, and print each line as soon as it is decided'
+complete -c tracebench -n '__tracebench_given audit' -l window -x -d 'With --live, how many messages before and after the front are looked at, 1 to 16777216; without it, 65536'
 complete -c tracebench -n '__tracebench_given audit' -l only -x -d 'Look at harts A to B alone, or at hart A, 0 to 1023; without it, at all'
 complete -c tracebench -n '__tracebench_given audit' -l summary -d 'Leave out the lines of single messages, of bytes and of lost numbers'
 complete -c tracebench -n '__tracebench_given audit' -l format -x -d 'What is printed: text, or csv, a table'

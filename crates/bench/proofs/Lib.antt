@@ -15,7 +15,6 @@ pub mod FrontMessage
 pub mod OwnPayloads
 pub mod TakingIn
 pub mod WholeLog
-pub mod ListElements
 pub mod SendingOn
 pub mod SenderNext
 pub mod NewSenders

@@ -1,9 +1,9 @@
 -- What came of harts, by what a collector has of them at the end.
 use Rattle.std.proofs.Common.{◌≡◌, ◌<◌, inl, inr, ℕ, Bool, true, false, All, List, Option, Some, None, length}
-use Rattle.std.proofs.Common.{slice_get, refl, sym, ap, subst, ◌∙◌, arith}
+use Rattle.std.proofs.Common.{get_or, slice_get, refl, sym, ap, subst, ◌∙◌, arith}
 use Rattle.std.specs.Prelude.{IsFalse, IsSomeAnd, IsTrue}
 use Rattle.std.proofs.lemmas.Bool.{ne_eqb}
-use Rattle.std.proofs.lemmas.Option.{slice_get_within}
+use Rattle.std.proofs.lemmas.Option.{slice_get-get_or, slice_get_within}
 use Rattle.rvclass.specs.Fetch.{words_of}
 use Rattle.legalpath.specs.ProgramLog.{IsLegalLog, ProgramLog}
 use Rattle.payload.specs.declared.mode.Mode.{Mode}
@@ -21,7 +21,6 @@ use Rattle.bench.specs.declared.stop.Stop.TheVariants as stop
 use Rattle.bench.specs.Stopping.{NoRefusedIsClosed}
 use Rattle.bench.specs.steps.Taking.{CameUnlessRefused, IsTakenOf, LacksSome, NamesRefusedHart}
 use Rattle.bench.proofs.CollectedLemmas.{element, taken_by}
-use Rattle.bench.proofs.ListElements.{All-from_places}
 use Rattle.bench.proofs.RefusedHarts.{came_not_refused, came_refused}
 use Rattle.bench.proofs.WholeLog.{has_got}
 
@@ -180,11 +179,10 @@ module _ {A : Type 0} (config : Config) (logs : List ProgramLog) (taken : List M
 
   -- A hart that is refused is not closed.
   pub none_is_closed : NoRefusedIsClosed harts
-  none_is_closed =
-      All-from_places (λ came. came.refused ≡ true → came.closed ≡ false) harts (λ hart came at refused.
-      let within = slice_get_within harts hart came at in
+  none_is_closed = λ hart d within refused.
       let its = element logs hart (omega (arith, within, as_many)) in
-      by_case hart its.0 came at refused (are.each hart its.0 its.1))
+      by_case hart its.0 (get_or harts hart d) (slice_get-get_or harts hart d within) refused
+      (are.each hart its.0 its.1)
     where
       by_case : (hart : ℕ) (log : ProgramLog) (came : HartOutcome A) → slice_get harts hart ≡ Some came
           → came.refused ≡ true → IsTakenOf config.period config.mode log (length (of_hart hart taken)) hart collected
@@ -201,12 +199,10 @@ module _ {A : Type 0} (config : Config) (logs : List ProgramLog) (taken : List M
           ∙ ne_eqb cut.count all (λ same. omega (arith, same, few))
 
   pub names_refused : (why : Option Stop) → NamesRefusedHart why collected → NamesRefused why harts
-  names_refused None none =
-      All-from_places (λ came. IsFalse came.refused) harts (λ hart came at.
-      let within = slice_get_within harts hart came at in
+  names_refused None none = λ hart d within.
       let its = element logs hart (omega (arith, within, as_many)) in
-      not_refused hart its.0 came at (none hart (omega (arith, within, ends.count)))
-      (are.each hart its.0 its.1))
+      not_refused hart its.0 (get_or harts hart d) (slice_get-get_or harts hart d within)
+      (none hart (omega (arith, within, ends.count))) (are.each hart its.0 its.1)
   names_refused (Some (stop.Memory hart)) named =
       let its = element logs hart (subst (λ n. hart < n) (ap length are.own) named.0) in
       is_refused hart its.0 named.1 (are.each hart its.0 its.1)

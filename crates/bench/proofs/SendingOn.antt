@@ -12,10 +12,10 @@ use Rattle.funnel.specs.Held.{Held}
 use Rattle.funnel.specs.Machine.{Funnel, add, send_next, sent_by}
 use Rattle.funnel.specs.Order.{next_message}
 use Rattle.funnel.specs.Payloads.{payloads_of}
+use Rattle.receiver.proofs.HoldLemmas.{set-other}
 use Rattle.bench.specs.declared.sender.Sender.{Sender}
 use Rattle.bench.specs.steps.Sending.{AreSending, sender_at}
 use Rattle.bench.proofs.CollectedLemmas.{set-at}
-use Rattle.bench.proofs.ListElements.{slice_get-unwritten}
 use Rattle.bench.proofs.OwnPayloads.{own_payloads}
 
 module _ {B : Type 0} (period : ℕ) (mode : Mode) (capacity : ℕ) (logs : List ProgramLog) (state : Funnel) (core : Held)
@@ -58,7 +58,7 @@ module _ {B : Type 0} (period : ℕ) (mode : Mode) (capacity : ℕ) (logs : List
           ∙ ap (slice_get senders) (sym same)
           ∙ sending.each other its there
       by_hart other its there (inr apart) =
-          slice_get-unwritten senders hart other next apart ∙ sending.each other its there
+          set-other senders hart next other apart ∙ sending.each other its there
 
   module _ (payload : List ℕ) where
     abbrev message : Message
@@ -91,7 +91,7 @@ module _ {B : Type 0} (period : ℕ) (mode : Mode) (capacity : ℕ) (logs : List
           ∙ ap (λ (l : ProgramLog). Some (sender_at period mode l (length (sent_by other after))))
           (same_Some log its its_own)
       by_hart other its there (inr apart) =
-          slice_get-unwritten senders hart other next apart
+          set-other senders hart next other apart
           ∙ sending.each other its there
           ∙ ap (λ sent. Some (sender_at period mode its (length sent))) (sym (sent_other other apart))
 

@@ -4,7 +4,7 @@ use Rattle.std.proofs.Common.{◌++◌, Some, length, slice_get, sym, ap, subst,
 use Rattle.std.specs.Prelude.{Contains}
 use Rattle.std.specs.declared.thread.PromisedHandle.{PromisedHandle}
 use Rattle.std.proofs.lemmas.Bool.{cases_eq}
-use Rattle.std.proofs.lemmas.List.Elements.{Contains-push}
+use Rattle.std.proofs.lemmas.List.Elements.{Contains-append_left, Contains-push}
 use Rattle.std.proofs.lemmas.Option.{slice_get_within}
 use Rattle.legalpath.specs.ProgramLog.{ProgramLog}
 use Rattle.encoder.specs.SourceAt.{IsAt, SourceAt}
@@ -17,7 +17,6 @@ use Rattle.bench.specs.declared.worker.Work.{Work}
 use Rattle.bench.specs.steps.Gathering.{IsWorkerOf}
 use Rattle.bench.specs.steps.Taking.{IsCutOff}
 use Rattle.bench.proofs.CollectedSame.{collected_same, cut_off_same}
-use Rattle.bench.proofs.ListElements.{Contains-more}
 
 -- A worker with this port, the last one, and a new source of the log of its hart.
 pub new_worker : {S : Type 0} (at : S → SourceAt) (funnel : FunnelId) (config : Config) (logs : List ProgramLog)
@@ -85,7 +84,7 @@ module _ (config : Config) (logs : List ProgramLog) where
 
         with_one : {hart : ℕ} {log : ProgramLog} → IsBegun log started hart old
             → IsBegun log (started ++ place ∷ []) hart old
-        with_one {hart} (inl runs) = inl (Contains-more started place hart runs.0, runs.1)
+        with_one {hart} (inl runs) = inl (Contains-append_left started (place ∷ []) hart runs.0, runs.1)
         with_one (inr cut) = inr cut
 
     -- With a hart that is refused.

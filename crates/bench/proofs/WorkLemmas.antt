@@ -5,6 +5,7 @@ use Rattle.std.specs.Prelude.{Contains}
 use Rattle.std.specs.declared.thread.PromisedHandle.{PromisedHandle}
 use Rattle.std.proofs.lemmas.Bool.{cases_eq}
 use Rattle.std.proofs.lemmas.List.{length-append, length-map, length-set, length_push, map-append}
+use Rattle.std.proofs.lemmas.List.Elements.{Contains-push_cases}
 use Rattle.std.proofs.lemmas.Option.{same_Some, slice_get_within}
 use Rattle.legalpath.specs.ProgramLog.{ProgramLog}
 use Rattle.payload.specs.declared.mode.Mode.{Mode}
@@ -15,6 +16,7 @@ use Rattle.message.specs.declared.message.Message.{Message}
 use Rattle.funnel.specs.Ends.{FunnelId, IsBeginning, PortView, after_sending}
 use Rattle.funnel.specs.Order.{next_message}
 use Rattle.funnel.specs.Payloads.{payloads_in}
+use Rattle.receiver.proofs.HoldLemmas.{set-other}
 use Rattle.bench.specs.Stopping.{LacksPayloads}
 use Rattle.bench.specs.Working.{AreNotAll, CarryFirst, IsWork}
 use Rattle.bench.specs.declared.config.Config.{Config}
@@ -23,7 +25,6 @@ use Rattle.bench.specs.declared.worker.Work.{Work}
 use Rattle.bench.specs.steps.Gathering.{IsWorkerOf}
 use Rattle.bench.proofs.CollectedLemmas.{set-at, take-next}
 use Rattle.bench.proofs.FirstItems.{take-front, take-last}
-use Rattle.bench.proofs.ListElements.{Contains-fewer, slice_get-unwritten}
 
 payloads_joined : (front rest : List Message) → payloads_in (front ++ rest) ≡ payloads_in front ++ payloads_in rest
 payloads_joined front rest = map-append (λ (message : Message). message.payload) front rest
@@ -178,7 +179,7 @@ module _ {S : Type 0} (at : S → SourceAt) (funnel : FunnelId) (config : Config
           same_Some flag true (sym written ∙ ap (slice_get (set flags at_place flag)) (sym same) ∙ noted) in
           of_own AreNotAll hart log known (sym (same ∙ here)) (lacks on)
       by_case (inr other) log known =
-          before hart (sym (slice_get-unwritten flags at_place hart flag other) ∙ noted) log known
+          before hart (sym (set-other flags at_place flag hart other) ∙ noted) log known
 
   -- What was taken of the harts of workers carries the first payloads of their logs, with this worker settled.
   pub carried_fewer : (harts : List ℕ) → CarryFirst source.period source.mode source.log (of_hart place taken)
@@ -186,7 +187,7 @@ module _ {S : Type 0} (at : S → SourceAt) (funnel : FunnelId) (config : Config
       → CarryFirst config.period config.mode log (of_hart hart taken) ⊎ Contains (harts ++ place ∷ []) hart
       → CarryFirst config.period config.mode log (of_hart hart taken) ⊎ Contains harts hart
   carried_fewer harts first hart log known (inl done) = inl done
-  carried_fewer harts first hart log known (inr still) = by_rest (Contains-fewer harts place hart still)
+  carried_fewer harts first hart log known (inr still) = by_rest (Contains-push_cases harts place hart still)
     where
       by_rest : Contains harts hart ⊎ (place ≡ hart)
           → CarryFirst config.period config.mode log (of_hart hart taken) ⊎ Contains harts hart

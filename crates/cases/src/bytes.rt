@@ -6,7 +6,7 @@ use crate::case::{Case, cut};
 const BASE: u64 = 0x8000_0000;
 
 /// Adds the bytes of pairs of digits.
-fn add_pairs(case: &mut Case<'_>, bytes: &mut Vec<u8>, digits: &str) {
+fn add_pairs(case: &Case, bytes: &mut Vec<u8>, digits: &str) {
     for pair in digits.as_bytes().chunks(2) {
         let byte = match str::from_utf8(pair) {
             Ok(digits) if digits.len() == 2 => case.byte_or_0(digits),
@@ -20,7 +20,7 @@ fn add_pairs(case: &mut Case<'_>, bytes: &mut Vec<u8>, digits: &str) {
 }
 
 /// The bytes of pairs of hexadecimal digits.
-pub fn bytes_of(case: &mut Case<'_>, words: &str) -> Vec<u8> {
+pub fn bytes_of(case: &Case, words: &str) -> Vec<u8> {
     let mut bytes = Vec::new(case.alloc);
     for word in words.split_whitespace() {
         let (count, digits) = case.times(word);
@@ -32,7 +32,7 @@ pub fn bytes_of(case: &mut Case<'_>, words: &str) -> Vec<u8> {
 }
 
 /// Adds the bytes of a number, the lowest first: as many as it has pairs of digits.
-fn add_number(case: &mut Case<'_>, bytes: &mut Vec<u8>, word: &str) {
+fn add_number(case: &Case, bytes: &mut Vec<u8>, word: &str) {
     let (count, digits) = case.times(word);
     let all = case.hex(digits).to_le_bytes();
     let Some(first) = all.get(..digits.len() / 2) else {
@@ -45,7 +45,7 @@ fn add_number(case: &mut Case<'_>, bytes: &mut Vec<u8>, word: &str) {
 
 /// A piece of a memory: its base, and the bytes of numbers, each with its lowest byte first, as `1000: 00000013 0001`.
 /// A piece that names no base begins at 80000000.
-pub fn piece_of(case: &mut Case<'_>, text: &str) -> (u64, Vec<u8>) {
+pub fn piece_of(case: &Case, text: &str) -> (u64, Vec<u8>) {
     let (base, words) = match text.split_once(':') {
         Some((base, words)) => (case.hex(base.trim()), words),
         None => (BASE, text),
@@ -58,7 +58,7 @@ pub fn piece_of(case: &mut Case<'_>, text: &str) -> (u64, Vec<u8>) {
 }
 
 /// Adds a text so often, with this after it each time.
-fn add_texts(case: &mut Case<'_>, bytes: &mut Vec<u8>, text: &str, end: &[u8]) {
+fn add_texts(case: &Case, bytes: &mut Vec<u8>, text: &str, end: &[u8]) {
     let (count, again) = case.times(text);
     for _ in 0..count {
         case.extend(bytes, again.as_bytes());
@@ -67,16 +67,15 @@ fn add_texts(case: &mut Case<'_>, bytes: &mut Vec<u8>, text: &str, end: &[u8]) {
 }
 
 /// Adds lines that each begin with a hexadecimal number: `N*FIRST+STEP`, and what comes after the number.
-fn add_rising(case: &mut Case<'_>, bytes: &mut Vec<u8>, text: &str) {
+fn add_rising(case: &Case, bytes: &mut Vec<u8>, text: &str) {
     let (count, line) = case.times(text);
     let (place, fields) = cut(line, ',');
     let (first, step) = cut(place, '+');
     let (mut number, step) = (case.hex(first), case.hex(step));
-    let mut digits = case.again();
+    let digits = case.over("");
     for _ in 0..count {
-        digits.came.clear();
         digits.put_hex(number);
-        case.extend(bytes, digits.came.as_bytes());
+        case.extend(bytes, digits.taken().as_bytes());
         case.extend(bytes, b",");
         case.extend(bytes, fields.as_bytes());
         case.extend(bytes, b"\n");
@@ -85,7 +84,7 @@ fn add_rising(case: &mut Case<'_>, bytes: &mut Vec<u8>, text: &str) {
 }
 
 /// Adds what comes after a `\` of a text, and returns the rest.
-fn add_escaped<'t>(case: &mut Case<'_>, bytes: &mut Vec<u8>, text: &'t str) -> &'t str {
+fn add_escaped<'t>(case: &Case, bytes: &mut Vec<u8>, text: &'t str) -> &'t str {
     let kind = text.bytes().next().unwrap_or(0);
     let after = text.get(1..).unwrap_or("");
     let (inner, rest) = match kind {
@@ -109,9 +108,9 @@ fn add_escaped<'t>(case: &mut Case<'_>, bytes: &mut Vec<u8>, text: &'t str) -> &
 }
 
 /// The bytes of the text between quotes at the end of the arguments.
-pub fn text_of(case: &mut Case<'_>) -> Vec<u8> {
+pub fn text_of(case: &Case) -> Vec<u8> {
     let mut bytes = Vec::new(case.alloc);
-    let quoted = cut(case.text, '"').1.strip_suffix('"');
+    let quoted = cut(case.text(), '"').1.strip_suffix('"');
     if quoted.is_none() {
         case.unread();
     }

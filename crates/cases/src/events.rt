@@ -7,7 +7,7 @@ use retire::Event;
 const MOST_EVENTS: usize = 1 << 24;
 
 /// The event of a row's fields after the address.
-fn event_at(case: &mut Case<'_>, place: u64, fields: &str) -> Event {
+fn event_at(case: &Case, place: u64, fields: &str) -> Event {
     let (itype, rest) = cut(fields, ',');
     let (privilege, rest) = cut(rest, ',');
     let (cause, tval) = cut(rest, ',');
@@ -61,7 +61,7 @@ fn moved(event: &Event, to: u64) -> Event {
 
 /// Adds the events of rows, `ADDR,ITYPE,PRIV,CAUSE,TVAL` with a `/` between two of them, at a time of several: each further
 /// time comes so far after the one before it as the step of `ADDR+STEP` says.
-fn add_events(case: &mut Case<'_>, events: &mut Vec<Event>, rows: &str, time: u64) {
+fn add_events(case: &Case, events: &mut Vec<Event>, rows: &str, time: u64) {
     for row in rows.split('/') {
         let (place, fields) = cut(row, ',');
         let (first, step) = cut(place, '+');
@@ -73,9 +73,9 @@ fn add_events(case: &mut Case<'_>, events: &mut Vec<Event>, rows: &str, time: u6
 }
 
 /// The events of the arguments that are left, as many as a log may have.
-pub fn events_of(case: &mut Case<'_>) -> Vec<Event> {
+pub fn events_of(case: &Case) -> Vec<Event> {
     let mut events = Vec::new(case.alloc);
-    for word in case.text.split_whitespace() {
+    for word in case.text().split_whitespace() {
         let (count, rows) = case.times(word);
         for time in 0..count {
             add_events(case, &mut events, rows, time);
@@ -101,7 +101,7 @@ fn run_of(events: &[Event], first: &Event, step: u64) -> usize {
 }
 
 /// Appends numbers in hexadecimal, with a comma before each.
-fn put_numbers(case: &mut Case<'_>, numbers: &[u64]) {
+fn put_numbers(case: &Case, numbers: &[u64]) {
     for number in numbers {
         case.put(",");
         case.put_hex(*number);
@@ -109,7 +109,7 @@ fn put_numbers(case: &mut Case<'_>, numbers: &[u64]) {
 }
 
 /// Appends the fields of an event's row after the address.
-fn put_fields(case: &mut Case<'_>, event: &Event) {
+fn put_fields(case: &Case, event: &Event) {
     let (itype, cause, tval) = match *event {
         Event::Retire { itype, .. } => (itype, None, None),
         Event::Trap {
@@ -129,7 +129,7 @@ fn put_fields(case: &mut Case<'_>, event: &Event) {
 }
 
 /// Appends the first of these events, or as many as make a run of three or more, as a word. Returns how many they are.
-fn put_run(case: &mut Case<'_>, events: &[Event], first: &Event) -> usize {
+fn put_run(case: &Case, events: &[Event], first: &Event) -> usize {
     let second = events.get(1).unwrap_or(first);
     let step = second.place().saturating_sub(first.place());
     let mut count = run_of(events, first, step);
@@ -150,7 +150,7 @@ fn put_run(case: &mut Case<'_>, events: &[Event], first: &Event) -> usize {
 }
 
 /// Appends the rows of events. Three or more that follow one another by the same step are one word.
-pub fn put_rows(case: &mut Case<'_>, events: &[Event]) {
+pub fn put_rows(case: &Case, events: &[Event]) {
     let mut rest = events;
     for _ in 0..events.len() {
         if let Some(first) = rest.first() {

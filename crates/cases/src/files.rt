@@ -23,7 +23,7 @@ fn data_file<R: Files + AllocGlobal>(rt: &R, name: String) -> io::Result<DataFil
     }
     Ok(DataFile {
         name,
-        text: lines.came,
+        text: lines.taken(),
         numbers,
     })
 }

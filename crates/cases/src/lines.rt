@@ -29,11 +29,11 @@ impl<'a> Line<'a> {
     }
 
     /// Appends what is wanted.
-    pub(crate) fn put_wanted(&self, wanted: &mut Case<'_>) {
+    pub(crate) fn put_wanted(&self, wanted: &Case) {
         wanted.put(self.parts.1);
         for line in self.text.lines().skip(1) {
             if let Some(further) = line.strip_prefix("> ") {
-                if !wanted.came.is_empty() {
+                if !wanted.has_nothing() {
                     wanted.put("\n");
                 }
                 wanted.put(further);
@@ -45,7 +45,7 @@ impl<'a> Line<'a> {
 }
 
 /// Adds the lines of a file at which cases begin.
-fn add_lines<'a>(notes: &mut Case<'_>, lines: &mut Vec<Line<'a>>, file: &'a DataFile) {
+fn add_lines<'a>(notes: &Case, lines: &mut Vec<Line<'a>>, file: &'a DataFile) {
     let mut offset: usize = 0;
     for (place, line) in file.text.split('\n').enumerate() {
         if begins_case(line) {
@@ -63,10 +63,10 @@ fn add_lines<'a>(notes: &mut Case<'_>, lines: &mut Vec<Line<'a>>, file: &'a Data
 
 /// The lines of files at which cases begin.
 pub fn lines_of<'a>(alloc: Global, files: &'a [DataFile]) -> Result<Vec<Line<'a>>, AllocError> {
-    let mut notes = Case::new(alloc, "");
+    let notes = Case::new(alloc, "");
     let mut lines = Vec::new(alloc);
     for file in files {
-        add_lines(&mut notes, &mut lines, file);
+        add_lines(&notes, &mut lines, file);
     }
     notes.is_read()?;
     Ok(lines)

@@ -6,7 +6,7 @@ use message::Message;
 use payload::{Mode, Outcomes, Packet, Payload, Report, Support};
 
 /// The mode with this name.
-pub fn mode_of(case: &mut Case<'_>, name: &str) -> Mode {
+pub fn mode_of(case: &Case, name: &str) -> Mode {
     match name {
         "full" => Mode::Full,
         "diff" => Mode::Differential,
@@ -18,7 +18,7 @@ pub fn mode_of(case: &mut Case<'_>, name: &str) -> Mode {
 }
 
 /// Reads the next word, a mode.
-pub fn next_mode(case: &mut Case<'_>) -> Mode {
+pub fn next_mode(case: &Case) -> Mode {
     let name = case.word();
     mode_of(case, name)
 }
@@ -35,7 +35,7 @@ pub fn outcomes_of(digits: &str) -> Outcomes {
 }
 
 /// The value of a packet's field, which has to be there.
-fn field<'t>(case: &mut Case<'_>, text: &'t str, name: &str) -> &'t str {
+fn field<'t>(case: &Case, text: &'t str, name: &str) -> &'t str {
     for word in text.split(' ') {
         if let Some(value) = word.strip_prefix(name) {
             return value;
@@ -46,13 +46,13 @@ fn field<'t>(case: &mut Case<'_>, text: &'t str, name: &str) -> &'t str {
 }
 
 /// The field that is a hexadecimal number.
-fn hex_in(case: &mut Case<'_>, text: &str, name: &str) -> u64 {
+fn hex_in(case: &Case, text: &str, name: &str) -> u64 {
     let digits = field(case, text, name);
     case.hex(digits)
 }
 
 /// The trap packet of a text, with this privilege.
-fn trap_of(case: &mut Case<'_>, text: &str, taken: bool, privilege: u8) -> Packet {
+fn trap_of(case: &Case, text: &str, taken: bool, privilege: u8) -> Packet {
     let interrupt = text.starts_with("trap interrupt ");
     let handler = text.contains(" handler=");
     let name = if handler { "handler=" } else { "epc=" };
@@ -74,7 +74,7 @@ fn trap_of(case: &mut Case<'_>, text: &str, taken: bool, privilege: u8) -> Packe
 }
 
 /// The report of an address packet with this name.
-pub fn report_of(case: &mut Case<'_>, name: &str) -> Report {
+pub fn report_of(case: &Case, name: &str) -> Report {
     match name {
         "plain" => Report::Plain,
         "updiscon" => Report::Updiscon,
@@ -87,7 +87,7 @@ pub fn report_of(case: &mut Case<'_>, name: &str) -> Report {
 }
 
 /// The synchronisation or the trap packet of a text.
-fn placed_of(case: &mut Case<'_>, text: &str) -> Packet {
+fn placed_of(case: &Case, text: &str) -> Packet {
     let taken = field(case, text, "branch=") == "0";
     let privilege = field(case, text, "priv=");
     let privilege = case.byte_or_0(privilege);
@@ -102,7 +102,7 @@ fn placed_of(case: &mut Case<'_>, text: &str) -> Packet {
 }
 
 /// The packet that opens or closes a trace; a text that is none is noted.
-fn support_of(case: &mut Case<'_>, text: &str) -> Packet {
+fn support_of(case: &Case, text: &str) -> Packet {
     Packet::Support(match text {
         "open full" => Support::Open(Mode::Full),
         "close ended_rep" => Support::EndedRep,
@@ -116,7 +116,7 @@ fn support_of(case: &mut Case<'_>, text: &str) -> Packet {
 }
 
 /// The packet of a text, as `dump` writes packets.
-pub fn packet_of(case: &mut Case<'_>, text: &str) -> Packet {
+pub fn packet_of(case: &Case, text: &str) -> Packet {
     let (kind, rest) = cut(text, ' ');
     match kind {
         "sync" | "trap" => placed_of(case, text),
@@ -131,12 +131,12 @@ pub fn packet_of(case: &mut Case<'_>, text: &str) -> Packet {
 }
 
 /// The payload of bytes, if they are one.
-pub fn payload_of(case: &mut Case<'_>, bytes: &[u8]) -> Option<Payload> {
+pub fn payload_of(case: &Case, bytes: &[u8]) -> Option<Payload> {
     case.read(Payload::new(bytes))
 }
 
 /// The hart, the number and the payload's bytes of `HART.NUMBER:PAYLOAD`.
-fn parts_of(case: &mut Case<'_>, word: &str) -> (u16, u64, Vec<u8>) {
+fn parts_of(case: &Case, word: &str) -> (u16, u64, Vec<u8>) {
     let (hart, rest) = cut(word, '.');
     let (number, digits) = cut(rest, ':');
     (
@@ -147,7 +147,7 @@ fn parts_of(case: &mut Case<'_>, word: &str) -> (u16, u64, Vec<u8>) {
 }
 
 /// The message `HART.NUMBER:PAYLOAD`, if it is one.
-pub fn message_of(case: &mut Case<'_>, word: &str) -> Option<Message> {
+pub fn message_of(case: &Case, word: &str) -> Option<Message> {
     let (hart, number, bytes) = parts_of(case, word);
     let payload = payload_of(case, bytes.as_slice())?;
     Some(Message {
@@ -159,7 +159,7 @@ pub fn message_of(case: &mut Case<'_>, word: &str) -> Option<Message> {
 
 /// Adds the message of a hart with this number and payload.
 pub fn add_message(
-    case: &mut Case<'_>,
+    case: &Case,
     messages: &mut Vec<Message>,
     (hart, number): (u16, u64),
     payload: &[u8],
@@ -175,7 +175,7 @@ pub fn add_message(
 }
 
 /// Adds the message of an argument; where it is repeated, of this hart and those after it.
-fn add_messages(case: &mut Case<'_>, messages: &mut Vec<Message>, word: &str) {
+fn add_messages(case: &Case, messages: &mut Vec<Message>, word: &str) {
     let (count, one) = case.times(word);
     let (first, number, bytes) = parts_of(case, one);
     for time in 0..count {
@@ -185,9 +185,9 @@ fn add_messages(case: &mut Case<'_>, messages: &mut Vec<Message>, word: &str) {
 }
 
 /// The messages of the arguments that are left.
-pub fn messages_of(case: &mut Case<'_>) -> Vec<Message> {
+pub fn messages_of(case: &Case) -> Vec<Message> {
     let mut messages = Vec::new(case.alloc);
-    for word in case.text.split_whitespace() {
+    for word in case.text().split_whitespace() {
         add_messages(case, &mut messages, word);
     }
     messages

@@ -11,7 +11,7 @@ use std::rt::{Env, Files};
 /// What gives the results of cases.
 pub trait Verbs {
     /// Appends what a case gives. Where there is no such verb, or its arguments are not read, that is noted.
-    fn answer(&mut self, case: &mut Case<'_>);
+    fn answer(&mut self, case: &Case);
 }
 
 /// Plays the cases of files.
@@ -22,9 +22,9 @@ fn play_files<R: Eprint + AllocGlobal, V: Verbs>(
     files: &[DataFile],
 ) -> io::Result<()> {
     for line in &lines_of(rt.alloc(), files)? {
-        let mut case = Case::new(rt.alloc(), line.case());
-        verbs.answer(&mut case);
-        tally.judge(rt, line, &mut case)?;
+        let case = Case::new(rt.alloc(), line.case());
+        verbs.answer(&case);
+        tally.judge(rt, line, &case)?;
     }
     Ok(())
 }

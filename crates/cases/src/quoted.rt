@@ -3,7 +3,7 @@
 use crate::case::Case;
 
 /// Appends a line so often: with `\n` for its end, or as `\[N*LINE]` where it is there three times or more.
-fn put_times(case: &mut Case<'_>, line: &str, count: usize) {
+fn put_times(case: &Case, line: &str, count: usize) {
     if count > 2 {
         case.put_filled("\\[#*", &[count as u64]);
         case.put(line);
@@ -16,7 +16,7 @@ fn put_times(case: &mut Case<'_>, line: &str, count: usize) {
 }
 
 /// Appends lines, those together that are the same one after the other.
-fn put_lines(case: &mut Case<'_>, lines: &str) {
+fn put_lines(case: &Case, lines: &str) {
     let mut count: usize = 1;
     for (line, next) in lines.split('\n').zip(lines.split('\n').skip(1)) {
         if line == next {
@@ -32,7 +32,7 @@ fn put_lines(case: &mut Case<'_>, lines: &str) {
 
 /// Appends a text between quotes: with `\n` for the end of a line, and `\[N*LINE]` for three lines or more that are the
 /// same.
-pub fn put_quoted(case: &mut Case<'_>, text: &[u8]) {
+pub fn put_quoted(case: &Case, text: &[u8]) {
     let Ok(text) = str::from_utf8(text) else {
         return case.unread();
     };

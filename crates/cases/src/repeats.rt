@@ -7,7 +7,7 @@ use std::alloc::Global;
 #[derive(Drop)]
 pub(crate) struct Numbered {
     /// The text came in this case, which notes where allocation failed.
-    pub(crate) lines: Case<'static>,
+    pub(crate) lines: Case,
     pub(crate) numbers: Vec<usize>,
 }
 
@@ -52,7 +52,7 @@ fn number_by(base: Base, field: &str, time: u64) -> u64 {
 }
 
 /// Appends the number of a field by this time.
-fn put_field(lines: &mut Case<'_>, field: &str, time: u64) {
+fn put_field(lines: &Case, field: &str, time: u64) {
     if let Some((field, count)) = field.split_once('/') {
         let from = 8usize.saturating_sub(count.parse::<usize>().unwrap_or(0));
         let bytes = number_by(Base::Sixteen, field, time).to_be_bytes();
@@ -70,7 +70,7 @@ fn put_field(lines: &mut Case<'_>, field: &str, time: u64) {
 }
 
 /// Appends a line with the numbers of its fields by this time.
-fn put_line(lines: &mut Case<'_>, line: &str, time: u64) {
+fn put_line(lines: &Case, line: &str, time: u64) {
     let mut rest = line;
     for _ in 0..line.len() {
         let Some((plain, begun)) = rest.split_once('{') else {
@@ -128,7 +128,7 @@ impl Numbered {
         for time in 0..count.parse::<u64>().unwrap_or(0) {
             for line in block {
                 self.begin(line.number);
-                put_line(&mut self.lines, line.text, time);
+                put_line(&self.lines, line.text, time);
             }
         }
         end
@@ -159,8 +159,9 @@ fn passed(before: &Numbered, pass: Pass) -> Numbered {
         numbers: Vec::new(alloc),
     };
     all.lines.join(&before.lines);
+    let text = before.lines.taken();
     let mut lines = Vec::new(alloc);
-    for (number, text) in before.numbers.iter().zip(before.lines.came.lines()) {
+    for (number, text) in before.numbers.iter().zip(text.lines()) {
         let number = *number;
         all.lines.push(&mut lines, Line { number, text });
     }
@@ -174,7 +175,7 @@ fn passed(before: &Numbered, pass: Pass) -> Numbered {
 /// The text of a file with all its lines written out: those between `repeat N` and `end` come N times, where a block may be
 /// in another one; and those that go on are in one with the line before them.
 pub(crate) fn written_out(alloc: Global, text: &str) -> Numbered {
-    let (mut lines, mut numbers) = (Case::new(alloc, ""), Vec::new(alloc));
+    let (lines, mut numbers) = (Case::new(alloc, ""), Vec::new(alloc));
     lines.put(text);
     for before in 0..text.lines().count() {
         lines.push(&mut numbers, before.saturating_add(1));

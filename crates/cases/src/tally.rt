@@ -42,17 +42,17 @@ impl Tally {
         &mut self,
         rt: &R,
         line: &Line<'_>,
-        case: &mut Case<'_>,
+        case: &Case,
     ) -> io::Result<()> {
-        let mut wanted = Case::new(rt.alloc(), "");
-        line.put_wanted(&mut wanted);
-        case.join(&wanted);
-        case.end()?;
-        let came = case.came.trim_end_matches('\n');
-        if case.is_setting && wanted.came.as_str() == came {
+        let notes = Case::new(rt.alloc(), "");
+        line.put_wanted(&notes);
+        case.join(&notes);
+        let (wanted, came) = (notes.taken(), case.end()?);
+        let came = came.as_str().trim_end_matches('\n');
+        if case.is_setting() && wanted.as_str() == came {
             return Ok(());
         }
-        self.count(rt, (line.file, line.number), wanted.came.as_str(), came)
+        self.count(rt, (line.file, line.number), wanted.as_str(), came)
     }
 
     /// Counts a case, at this line of a file; its lines are counted from 1. Where what came is not what was wanted, both

@@ -26,12 +26,7 @@ pub(crate) struct Calls {
 impl Calls {
     /// No call of so many harts yet. The second hart sends nothing before so many messages of the first one, or, where
     /// there are none, before the first hart is about to send, as the first one waits for the second.
-    pub(crate) fn new(
-        case: &mut Case<'_>,
-        sent: Arc<AtomicU64>,
-        harts: usize,
-        first: u64,
-    ) -> Calls {
+    pub(crate) fn new(case: &Case, sent: Arc<AtomicU64>, harts: usize, first: u64) -> Calls {
         let mut made = Vec::new(case.alloc);
         for _ in 0..harts {
             case.push(&mut made, AtomicU64::new(0));
@@ -75,7 +70,7 @@ impl Calls {
     }
 
     /// How many calls each hart made. A call that was not the next of its hart is said, and a hart that waited in vain.
-    pub(crate) fn made(&self, case: &mut Case<'_>) -> Vec<u64> {
+    pub(crate) fn made(&self, case: &Case) -> Vec<u64> {
         if self.strange.load(Ordering::SeqCst) {
             case.put_part("a call that is not the next");
         }

@@ -43,7 +43,7 @@ fn take_log(
 
 /// Takes in all messages of each log, and appends how many there are.
 fn take_all(
-    case: &mut Case<'_>,
+    case: &Case,
     collector: &mut Collector<'_, '_, &Memory>,
     logs: &[LegalLog<'_>],
     config: Config,
@@ -60,7 +60,7 @@ fn take_all(
 }
 
 /// Takes in a message, and appends why not, or that it is taken in.
-fn take_message(case: &mut Case<'_>, collector: &mut Collector<'_, '_, &Memory>, word: &str) {
+fn take_message(case: &Case, collector: &mut Collector<'_, '_, &Memory>, word: &str) {
     if let Some(message) = message_of(case, word) {
         match collector.take_in(message) {
             Ok(()) => case.put_part("taken in"),
@@ -71,7 +71,7 @@ fn take_message(case: &mut Case<'_>, collector: &mut Collector<'_, '_, &Memory>,
 
 /// Takes in the first messages of a log, `MOST*HART`, and appends how many there are.
 fn take_some(
-    case: &mut Case<'_>,
+    case: &Case,
     collector: &mut Collector<'_, '_, &Memory>,
     logs: &[LegalLog<'_>],
     config: Config,
@@ -93,7 +93,7 @@ fn take_some(
 
 /// Takes in what the steps of `take` say.
 fn take_steps(
-    case: &mut Case<'_>,
+    case: &Case,
     collector: &mut Collector<'_, '_, &Memory>,
     logs: &[LegalLog<'_>],
     config: Config,
@@ -114,7 +114,7 @@ fn take_steps(
 /// `collect SETTINGS`: what comes of each step of `take`, which have commas between them, and of the harts then. A step
 /// is `all`, by which all messages of each log are taken in, `MOST*HART`, the first messages of a log, at most so many,
 /// or a message. For the hart `refuse` an allocation has failed before.
-pub(crate) fn collected(case: &mut Case<'_>, program: &Program) {
+pub(crate) fn collected(case: &Case, program: &Program) {
     let config = config_of(case);
     let logs = logs_in(case, program);
     let refused = case.number("refuse", u64::MAX);

@@ -68,7 +68,7 @@ impl Table {
     }
 
     /// Adds a file.
-    pub(crate) fn put(&mut self, case: &mut Case<'_>, kind: Kind, text: String) {
+    pub(crate) fn put(&mut self, case: &Case, kind: Kind, text: String) {
         let file = File {
             kind,
             text,

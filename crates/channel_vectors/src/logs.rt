@@ -19,21 +19,15 @@ const KINDS: [&str; 4] = [
 
 /// The program of these words.
 pub(crate) fn program_of(alloc: Global, words: &str) -> Option<Program> {
-    let (base, image) = piece_of(&mut Case::new(alloc, ""), words);
+    let (base, image) = piece_of(&Case::new(alloc, ""), words);
     Program::new(base, image).ok()
 }
 
 /// Adds the log of these rows.
-fn add_log<'a, 'p>(
-    case: &mut Case<'a>,
-    program: &'p Program,
-    rows: &'a str,
-    logs: &mut Vec<LegalLog<'p>>,
-) {
-    let unread = case.text;
-    case.text = rows;
-    let events = events_of(case);
-    case.text = unread;
+fn add_log<'p>(case: &Case, program: &'p Program, rows: &str, logs: &mut Vec<LegalLog<'p>>) {
+    let own = case.over(rows);
+    let events = events_of(&own);
+    case.join(&own);
     if events.len() <= 1 << 24 {
         if let Ok(log) = LegalLog::new(program, events) {
             return case.push(logs, log);
@@ -43,11 +37,11 @@ fn add_log<'a, 'p>(
 }
 
 /// The logs of this many harts, of the four kinds in turn, and then one of these rows if there are some.
-pub(crate) fn logs_of<'a, 'p>(
-    case: &mut Case<'a>,
+pub(crate) fn logs_of<'p>(
+    case: &Case,
     program: &'p Program,
     harts: u16,
-    long: &'a str,
+    long: &str,
 ) -> Vec<LegalLog<'p>> {
     let mut logs = Vec::new(case.alloc);
     for hart in 0..usize::from(harts) {
@@ -60,7 +54,7 @@ pub(crate) fn logs_of<'a, 'p>(
 }
 
 /// The logs of a case: as many as its harts, and then one more if there is one. A setting that is not known is noted.
-pub(crate) fn logs_in<'p>(case: &mut Case<'_>, program: &'p Program) -> Vec<LegalLog<'p>> {
+pub(crate) fn logs_in<'p>(case: &Case, program: &'p Program) -> Vec<LegalLog<'p>> {
     check_names(case);
     let harts = case.small("harts", 4);
     let long = case.named("long");
@@ -74,8 +68,8 @@ const SETTINGS: [&str; 18] = [
 ];
 
 /// Notes an argument that has not the name of a setting.
-fn check_names(case: &mut Case<'_>) {
-    for word in case.text.split_whitespace() {
+fn check_names(case: &Case) {
+    for word in case.text().split_whitespace() {
         let name = cut(word, '=').0;
         let mut known = false;
         for setting in SETTINGS {
@@ -88,7 +82,7 @@ fn check_names(case: &mut Case<'_>) {
 }
 
 /// How a case sends messages.
-pub(crate) fn config_of(case: &mut Case<'_>) -> Config {
+pub(crate) fn config_of(case: &Case) -> Config {
     let mode = case.value("mode").unwrap_or("diff");
     let capacity = case.number("capacity", 1);
     if capacity > 0xffff_ffff {
@@ -103,7 +97,7 @@ pub(crate) fn config_of(case: &mut Case<'_>) -> Config {
 }
 
 /// `legal ROWS`: whether these events are kept as a legal log or given back, with how many requests for memory.
-pub(crate) fn kept(case: &mut Case<'_>, program: &Program) {
+pub(crate) fn kept(case: &Case, program: &Program) {
     let events = events_of(case);
     let memory = Refusing::new(case.alloc, u64::MAX);
     let Ok(list) = events.to_vec(&memory) else {

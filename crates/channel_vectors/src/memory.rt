@@ -10,7 +10,7 @@ pub(crate) type Memory = Refusing<Global>;
 
 /// Memory of which the request `fails` fails, or the request `held` is held back: until one message more is sent than a
 /// funnel of this capacity holds, and then for as long as more would come.
-pub(crate) fn memory_of(case: &mut Case<'_>, sent: Arc<AtomicU64>, capacity: u32) -> Memory {
+pub(crate) fn memory_of(case: &Case, sent: Arc<AtomicU64>, capacity: u32) -> Memory {
     match case.value("held") {
         Some(word) => {
             let held = case.decimal(word);
@@ -27,7 +27,7 @@ pub(crate) fn memory_of(case: &mut Case<'_>, sent: Arc<AtomicU64>, capacity: u32
 
 /// Appends where the request that was to fail did not come, how many messages were sent while one was held back, and,
 /// where `requests` is asked for, how many requests came after so many.
-pub(crate) fn put_requests(case: &mut Case<'_>, memory: &Memory, before: u64) {
+pub(crate) fn put_requests(case: &Case, memory: &Memory, before: u64) {
     if case.value("fails").is_some() && !memory.has_refused() {
         case.put_part("no such request");
     }

@@ -9,7 +9,7 @@ use message::{
 use payload::{Mode, PackFault};
 
 /// Appends a message, as a part.
-pub(crate) fn put_message(case: &mut Case<'_>, message: &Message) {
+pub(crate) fn put_message(case: &Case, message: &Message) {
     let (hart, number) = (message.hart, message.number);
     case.put_part(hart);
     case.put(".");
@@ -19,7 +19,7 @@ pub(crate) fn put_message(case: &mut Case<'_>, message: &Message) {
 }
 
 /// Appends a header: its mode, its period and its count of harts.
-fn put_header(case: &mut Case<'_>, header: Header) {
+fn put_header(case: &Case, header: Header) {
     let mode = match header.mode {
         Mode::Differential => "header diff",
         Mode::Full => "header full",
@@ -30,8 +30,8 @@ fn put_header(case: &mut Case<'_>, header: Header) {
 }
 
 /// `message MESSAGE`: the bytes as which it is written. Each way of reading them returns the message.
-pub(crate) fn written(case: &mut Case<'_>) {
-    let word = case.text;
+pub(crate) fn written(case: &Case) {
+    let word = case.text();
     let sent = message_of(case, word);
     let mut bytes = Vec::new(case.alloc);
     if let Some(message) = &sent {
@@ -52,7 +52,7 @@ pub(crate) fn written(case: &mut Case<'_>) {
 }
 
 /// `header MODE PERIOD HARTS`: the bytes as which it is written. Each way of reading them returns the header.
-pub(crate) fn header_written(case: &mut Case<'_>) {
+pub(crate) fn header_written(case: &Case) {
     let (mode, period, harts) = (case.word(), case.word(), case.word());
     let header = Header {
         mode: mode_of(case, mode),
@@ -72,7 +72,7 @@ pub(crate) fn header_written(case: &mut Case<'_>) {
 }
 
 /// Appends what reading a message returns; whether reading may go on.
-fn put_read(case: &mut Case<'_>, read: Result<Option<Message>, MessageFault>) -> bool {
+fn put_read(case: &Case, read: Result<Option<Message>, MessageFault>) -> bool {
     match read {
         Ok(Some(message)) => {
             put_message(case, &message);
@@ -85,7 +85,7 @@ fn put_read(case: &mut Case<'_>, read: Result<Option<Message>, MessageFault>) ->
 }
 
 /// Appends what a call for a header returns; whether reading may go on.
-fn put_header_read(case: &mut Case<'_>, read: Result<Option<Header>, MessageFault>) -> bool {
+fn put_header_read(case: &Case, read: Result<Option<Header>, MessageFault>) -> bool {
     match read {
         Ok(Some(header)) => put_header(case, header),
         Ok(None) => case.put_part("no header"),
@@ -99,8 +99,8 @@ fn put_header_read(case: &mut Case<'_>, read: Result<Option<Header>, MessageFaul
 
 /// `memory BYTES`: what two calls for a header return, and where none failed the messages up to the end or a fault, with
 /// what one more call returns then. All of it by `Messages`.
-pub(crate) fn in_memory(case: &mut Case<'_>) {
-    let digits = case.text;
+pub(crate) fn in_memory(case: &Case) {
+    let digits = case.text();
     let bytes = bytes_of(case, digits);
     let mut messages = Messages::new(bytes.as_slice());
     let first = put_header_read(case, messages.header());
@@ -114,7 +114,7 @@ pub(crate) fn in_memory(case: &mut Case<'_>) {
 }
 
 /// Appends the messages that are left up to a fault or the end, which comes again.
-fn put_rest(case: &mut Case<'_>, mut rest: &[u8]) {
+fn put_rest(case: &Case, mut rest: &[u8]) {
     for _ in 0..rest.len().saturating_add(1) {
         let read = read_message(&mut rest);
         let is_end = matches!(&read, Ok(None));
@@ -130,8 +130,8 @@ fn put_rest(case: &mut Case<'_>, mut rest: &[u8]) {
 
 /// `stream BYTES`: what `read_start` returns, then messages by `read_message` up to a fault or the end. `messages BYTES`:
 /// those from the first byte on.
-pub(crate) fn from_stream(case: &mut Case<'_>, verb: &str) {
-    let digits = case.text;
+pub(crate) fn from_stream(case: &Case, verb: &str) {
+    let digits = case.text();
     let bytes = bytes_of(case, digits);
     let mut rest = bytes.as_slice();
     if verb == "stream" {
@@ -146,8 +146,8 @@ pub(crate) fn from_stream(case: &mut Case<'_>, verb: &str) {
 }
 
 /// `fault NAME`: the text of a fault that no other case has.
-pub(crate) fn fault(case: &mut Case<'_>) {
-    match case.text {
+pub(crate) fn fault(case: &Case) {
+    match case.text() {
         "read" => case.put_part(MessageFault::Read),
         "write" => case.put_part(MessageFault::Write),
         "pad" => case.put_part(DemuxFault::Packet(PackFault::BadPad)),

@@ -6,7 +6,7 @@ use legalpath::LegalLog;
 use std::alloc::Allocator;
 
 /// Appends a name, and the number of each hart. A number that is that of the hart four places before is left out.
-pub(crate) fn put_counts(case: &mut Case<'_>, name: &str, counts: &[u64]) {
+pub(crate) fn put_counts(case: &Case, name: &str, counts: &[u64]) {
     case.put_part("");
     case.put(name);
     for (hart, count) in counts.iter().enumerate() {
@@ -20,11 +20,7 @@ pub(crate) fn put_counts(case: &mut Case<'_>, name: &str, counts: &[u64]) {
 
 /// Appends what comes of each hart, where that is asked for its report first: whether every log came back whole, how many
 /// packets of each hart are kept, and which harts are closed and refused.
-pub(crate) fn put_outcome<A: Allocator>(
-    case: &mut Case<'_>,
-    outcome: &Outcome<A>,
-    logs: &[LegalLog<'_>],
-) {
+pub(crate) fn put_outcome<A: Allocator>(case: &Case, outcome: &Outcome<A>, logs: &[LegalLog<'_>]) {
     if logs.len() != outcome.harts.len() {
         return case.unread();
     }
@@ -47,7 +43,7 @@ pub(crate) fn put_outcome<A: Allocator>(
 
 /// Appends how many packets of each hart are kept, which of the first four harts are open and refused, and how many harts
 /// are open where there are more.
-fn put_harts<A: Allocator>(case: &mut Case<'_>, outcome: &Outcome<A>) {
+fn put_harts<A: Allocator>(case: &Case, outcome: &Outcome<A>) {
     let mut kept = Vec::new(case.alloc);
     let mut open: u64 = 0;
     for hart in &outcome.harts {

@@ -23,8 +23,8 @@ pub(crate) struct Ends {
 }
 
 /// `channel CAPACITY`: a new channel of two harts.
-pub(crate) fn opened(case: &mut Case<'_>) -> Option<Ends> {
-    let digits = case.text;
+pub(crate) fn opened(case: &Case) -> Option<Ends> {
+    let digits = case.text();
     let capacity = case.decimal(digits).min(1 << 16) as u32;
     case.sets();
     let Ok((mut ports, outlet)) = open(case.alloc, 2, capacity) else {
@@ -63,7 +63,7 @@ fn put_back(ends: &mut Ends, hart: &str, port: Port)
 }
 
 /// Sends a payload, and appends that it is sent, or why it comes back and what comes back. Returns whether it is sent.
-fn is_sent<R: Wait>(case: &mut Case<'_>, rt: &R, port: &mut Port, payload: Payload) -> bool
+fn is_sent<R: Wait>(case: &Case, rt: &R, port: &mut Port, payload: Payload) -> bool
     ensures { port.new.funnel ≡ port.old.funnel }
 {
     let (why, back) = match port.send(rt, payload) {
@@ -80,8 +80,8 @@ fn is_sent<R: Wait>(case: &mut Case<'_>, rt: &R, port: &mut Port, payload: Paylo
 }
 
 /// `send HART BYTES`: whether a payload is sent, or why it comes back, with what comes back.
-fn send<R: Wait>(case: &mut Case<'_>, rt: &R, ends: &mut Ends) {
-    let (hart, digits) = (case.word(), case.text);
+fn send<R: Wait>(case: &Case, rt: &R, ends: &mut Ends) {
+    let (hart, digits) = (case.word(), case.text());
     let bytes = bytes_of(case, digits);
     let Some(payload) = payload_of(case, bytes.as_slice()) else {
         return;
@@ -99,7 +99,7 @@ fn send<R: Wait>(case: &mut Case<'_>, rt: &R, ends: &mut Ends) {
 }
 
 /// `receive`: the oldest message, or that the channel has ended.
-fn receive<R: Wait>(case: &mut Case<'_>, rt: &R, ends: &mut Ends) {
+fn receive<R: Wait>(case: &Case, rt: &R, ends: &mut Ends) {
     let is_left = ends.first.is_some() || ends.second.is_some();
     let Some(outlet) = &mut ends.outlet else {
         return case.unread();
@@ -118,7 +118,7 @@ fn receive<R: Wait>(case: &mut Case<'_>, rt: &R, ends: &mut Ends) {
 }
 
 /// Settles a receipt, and appends of which hart it is, how many messages were sent, and how many were received.
-fn put_settled(case: &mut Case<'_>, outlet: &mut Outlet, receipt: Receipt)
+fn put_settled(case: &Case, outlet: &mut Outlet, receipt: Receipt)
     requires { receipt.funnel ≡ outlet.old.funnel }
     ensures { outlet.new.funnel ≡ outlet.old.funnel }
 {
@@ -128,7 +128,7 @@ fn put_settled(case: &mut Case<'_>, outlet: &mut Outlet, receipt: Receipt)
 }
 
 /// Ends a port, and settles its receipt where the verb says so, or drops it.
-fn end_port(case: &mut Case<'_>, ends: &mut Ends, verb: &str, port: Port)
+fn end_port(case: &Case, ends: &mut Ends, verb: &str, port: Port)
     requires { ForSome ends.old.outlet (λ outlet. port.funnel ≡ outlet.funnel) }
 {
     let Some(outlet) = &mut ends.outlet else {
@@ -142,7 +142,7 @@ fn end_port(case: &mut Case<'_>, ends: &mut Ends, verb: &str, port: Port)
 
 /// `settle HART`: the port finishes, and its receipt says of which hart it is, how many messages were sent, and how many
 /// were received. `finish HART`: the port finishes, and its receipt is dropped.
-fn finish(case: &mut Case<'_>, ends: &mut Ends, verb: &str) {
+fn finish(case: &Case, ends: &mut Ends, verb: &str) {
     let hart = case.word();
     match port_of(ends, hart) {
         Some(port) => end_port(case, ends, verb, port),
@@ -151,7 +151,7 @@ fn finish(case: &mut Case<'_>, ends: &mut Ends, verb: &str) {
 }
 
 /// `drop END`: the port of a hart, or the outlet, is dropped.
-fn leave(case: &mut Case<'_>, ends: &mut Ends) {
+fn leave(case: &Case, ends: &mut Ends) {
     match case.word() {
         "outlet" => ends.outlet = None,
         hart => drop(port_of(ends, hart)),
@@ -159,7 +159,7 @@ fn leave(case: &mut Case<'_>, ends: &mut Ends) {
 }
 
 /// Does what a verb says with the ends of the channel.
-pub(crate) fn answer<R: Wait>(case: &mut Case<'_>, rt: &R, ends: &mut Option<Ends>, verb: &str) {
+pub(crate) fn answer<R: Wait>(case: &Case, rt: &R, ends: &mut Option<Ends>, verb: &str) {
     let Some(ends) = ends.as_mut() else {
         return case.unread();
     };

@@ -18,7 +18,7 @@ pub(crate) struct Queue {
 type Faults = (Option<OpenFault>, Option<OpenFault>);
 
 /// The first number of a range `FIRST-LAST/STEP`, the one after the last and the step; one number is a range too.
-fn range_of(case: &mut Case<'_>, word: &str) -> (u64, u64, usize) {
+fn range_of(case: &Case, word: &str) -> (u64, u64, usize) {
     let (word, step) = word.split_once('/').unwrap_or((word, "1"));
     let (first, last) = word.split_once('-').unwrap_or((word, word));
     let step = case.decimal(step) as usize;
@@ -27,7 +27,7 @@ fn range_of(case: &mut Case<'_>, word: &str) -> (u64, u64, usize) {
 }
 
 /// Appends why there is none of something, or that it is made.
-fn put_made(case: &mut Case<'_>, fault: Option<OpenFault>) {
+fn put_made(case: &Case, fault: Option<OpenFault>) {
     match fault {
         Some(fault) => case.put_part(fault),
         None => case.put_part("made"),
@@ -35,7 +35,7 @@ fn put_made(case: &mut Case<'_>, fault: Option<OpenFault>) {
 }
 
 /// Appends why no queue and why no channel of these numbers are made, where that is not as before.
-fn put_limits(case: &mut Case<'_>, harts: u64, capacity: u64, before: &mut Option<Faults>) {
+fn put_limits(case: &Case, harts: u64, capacity: u64, before: &mut Option<Faults>) {
     let (Ok(harts), Ok(capacity)) = (u16::try_from(harts), u32::try_from(capacity)) else {
         return case.unread();
     };
@@ -50,7 +50,7 @@ fn put_limits(case: &mut Case<'_>, harts: u64, capacity: u64, before: &mut Optio
 
 /// `limits HARTS CAPACITIES`, each a number or a range: why no queue and why no channel of them is made, once for all
 /// that are alike and come one after the other.
-pub(crate) fn limits(case: &mut Case<'_>) {
+pub(crate) fn limits(case: &Case) {
     let (harts, capacities) = (case.word(), case.word());
     let (first, end, step) = range_of(case, harts);
     let (low, high, by) = range_of(case, capacities);
@@ -63,7 +63,7 @@ pub(crate) fn limits(case: &mut Case<'_>) {
 }
 
 /// `queue HARTS CAPACITY`: a new queue.
-pub(crate) fn begin(case: &mut Case<'_>) -> Option<Queue> {
+pub(crate) fn begin(case: &Case) -> Option<Queue> {
     let (harts, capacity) = (case.word(), case.word());
     let harts = case.short(harts);
     case.sets();
@@ -81,8 +81,8 @@ pub(crate) fn begin(case: &mut Case<'_>) -> Option<Queue> {
 }
 
 /// `offer MESSAGE`: whether the queue takes the message, or gives it back.
-pub(crate) fn offer(case: &mut Case<'_>, queue: &mut Option<Queue>) {
-    let word = case.text;
+pub(crate) fn offer(case: &Case, queue: &mut Option<Queue>) {
+    let word = case.text();
     let message = message_of(case, word);
     let Some(queue) = queue.as_mut() else {
         return case.unread();
@@ -103,7 +103,7 @@ pub(crate) fn offer(case: &mut Case<'_>, queue: &mut Option<Queue>) {
 }
 
 /// `take`: the front message, which is taken.
-pub(crate) fn take(case: &mut Case<'_>, queue: &mut Option<Queue>) {
+pub(crate) fn take(case: &Case, queue: &mut Option<Queue>) {
     let Some(queue) = queue.as_mut() else {
         return case.unread();
     };

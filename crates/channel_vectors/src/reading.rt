@@ -25,8 +25,8 @@ impl ProgressSink for Noted {
 
 /// `told HARTS RANGE BYTES`: of how many messages the watch is told while the capture of so many harts is decoded, or,
 /// where the range is not `all`, what it has of the harts of the range.
-pub(crate) fn told(case: &mut Case<'_>, program: &Program) {
-    let (harts, range, digits) = (case.word(), case.word(), case.text);
+pub(crate) fn told(case: &Case, program: &Program) {
+    let (harts, range, digits) = (case.word(), case.word(), case.text());
     let harts = case.short(harts);
     let bytes = bytes_of(case, digits);
     let bytes = bytes.as_slice();
@@ -66,18 +66,20 @@ const HEADER: &str = "addr,itype,priv,cause,tval\n";
 
 /// `piece SIZE COUNT ROW`: how many events are in the first piece, of so many bytes, of a log with this row so many
 /// times, and how many bytes are read for it.
-pub(crate) fn piece(case: &mut Case<'_>) {
-    let (size, count, row) = (case.word(), case.word(), case.text);
+pub(crate) fn piece(case: &Case) {
+    let (size, count, row) = (case.word(), case.word(), case.text());
     let (size, count) = (case.decimal(size), case.decimal(count));
-    let mut text = case.again();
+    let text = case.over("");
     text.put(HEADER);
     for _ in 0..count {
         text.put(row);
         text.put("\n");
     }
+    case.join(&text);
+    let text = text.taken();
     let given = Cell::new(0usize);
     let source = ReaderSource::new(Counted {
-        rest: text.came.as_bytes(),
+        rest: text.as_bytes(),
         given: &given,
     });
     let Ok(buffer) = PieceBuffer::of_size(case.alloc, size as usize) else {
@@ -90,5 +92,4 @@ pub(crate) fn piece(case: &mut Case<'_>) {
     }
     let read = [events.len() as u64, given.get() as u64];
     case.put_filled("# events of # bytes", &read);
-    case.join(&text);
 }

@@ -10,7 +10,7 @@ use rvclass::Program;
 use std::io::Write;
 
 /// The stop of a word `REASON:HART`, or none.
-fn stop_of(case: &mut Case<'_>, word: &str) -> Option<Stop> {
+fn stop_of(case: &Case, word: &str) -> Option<Stop> {
     let (reason, hart) = word.split_once(':').unwrap_or((word, "0"));
     let hart = case.short(hart);
     match reason {
@@ -26,22 +26,24 @@ fn stop_of(case: &mut Case<'_>, word: &str) -> Option<Stop> {
 }
 
 /// The outcome of a hart, by `PACKETS BYTES closed|open` and then its events.
-fn hart_of<'a>(case: &mut Case<'a>, words: &'a str) -> HartOutcome {
-    case.text = words.trim();
-    let (taken, bytes, closed) = (case.word(), case.word(), case.word());
-    HartOutcome {
+fn hart_of(case: &Case, words: &str) -> HartOutcome {
+    let own = case.over(words.trim());
+    let (taken, bytes, closed) = (own.word(), own.word(), own.word());
+    let hart = HartOutcome {
         packets: Vec::new(case.alloc),
-        taken: case.decimal(taken),
-        bytes: case.decimal(bytes),
-        decoded: events_of(case),
+        taken: own.decimal(taken),
+        bytes: own.decimal(bytes),
+        decoded: events_of(&own),
         closed: closed == "closed",
         refused: false,
-    }
+    };
+    case.join(&own);
+    hart
 }
 
 /// The outcome of two harts, by `STOP | HART | HART`.
-fn outcome_in(case: &mut Case<'_>) -> Outcome {
-    let (stop, first, second) = (case.part('|'), case.part('|'), case.text);
+fn outcome_in(case: &Case) -> Outcome {
+    let (stop, first, second) = (case.part('|'), case.part('|'), case.text());
     let mut harts = Vec::new(case.alloc);
     for words in [first, second] {
         let hart = hart_of(case, words);
@@ -54,15 +56,16 @@ fn outcome_in(case: &mut Case<'_>) -> Outcome {
 }
 
 /// `report STOP | HART | HART`: the report of these outcomes of two harts, whose logs are the first two.
-pub(crate) fn reported(case: &mut Case<'_>, program: &Program) {
+pub(crate) fn reported(case: &Case, program: &Program) {
     let logs = logs_of(case, program, 2, "");
     let outcome = outcome_in(case);
-    case.text = "report=yes";
-    put_outcome(case, &outcome, logs.as_slice());
+    let own = case.over("report=yes");
+    put_outcome(&own, &outcome, logs.as_slice());
+    case.put_first(&own);
 }
 
 /// `grown FAILS STOP | HART | HART`: what is written of such a report where memory for more of it is refused, and why.
-pub(crate) fn grown(case: &mut Case<'_>, program: &Program) {
+pub(crate) fn grown(case: &Case, program: &Program) {
     let fails = case.word();
     let fails = case.decimal(fails);
     let logs = logs_of(case, program, 2, "");
@@ -92,7 +95,7 @@ fn put_report<W: Write>(
 /// Whether a writer that takes a byte at each call and fails at one, after so many, holds as many of the first bytes of
 /// a report, and its fault is returned; or, where no call fails, all of the report.
 fn is_cut(
-    case: &mut Case<'_>,
+    case: &Case,
     outcome: &Outcome,
     logs: &[LegalLog<'_>],
     text: &[u8],
@@ -113,7 +116,7 @@ fn is_cut(
 }
 
 /// `cut STOP | HART | HART`: such a report, which is cut where a write fails, at each byte.
-pub(crate) fn cut_at_each(case: &mut Case<'_>, program: &Program) {
+pub(crate) fn cut_at_each(case: &Case, program: &Program) {
     let logs = logs_of(case, program, 2, "");
     let outcome = outcome_in(case);
     let mut text = Vec::new(case.alloc);

@@ -25,7 +25,7 @@ type Rooms<'m> = Vec<Vec<Event, &'m Memory>, &'m Memory>;
 type Answer<'m> = Result<Outcome<&'m Memory>, Setup>;
 
 /// Turns, with commas between them: `c` by which a message is taken, or `HART` that sends.
-fn single_turns(case: &mut Case<'_>) -> Vec<Turn> {
+fn single_turns(case: &Case) -> Vec<Turn> {
     let mut turns = Vec::new(case.alloc);
     for word in case.named("turns").split(',') {
         let turn = match word {
@@ -38,7 +38,7 @@ fn single_turns(case: &mut Case<'_>) -> Vec<Turn> {
 }
 
 /// Adds turns by which a hart sends this many messages and each is taken at once.
-fn add_turns(case: &mut Case<'_>, turns: &mut Vec<Turn>, hart: u16, count: u64) {
+fn add_turns(case: &Case, turns: &mut Vec<Turn>, hart: u16, count: u64) {
     for _ in 0..count {
         case.push(turns, Turn::Hart(hart));
         case.push(turns, Turn::Collect);
@@ -46,7 +46,7 @@ fn add_turns(case: &mut Case<'_>, turns: &mut Vec<Turn>, hart: u16, count: u64) 
 }
 
 /// The turns of a case: those that are named, or of each hart in turn as many as it sends messages.
-fn turns_of(case: &mut Case<'_>) -> Vec<Turn> {
+fn turns_of(case: &Case) -> Vec<Turn> {
     let each = case.named("each");
     if each.is_empty() {
         return single_turns(case);
@@ -64,7 +64,7 @@ fn turns_of(case: &mut Case<'_>) -> Vec<Turn> {
 }
 
 /// Adds lists of one size, `COUNT*SIZE`, of an event that no hart retires.
-fn add_rooms<'m>(case: &mut Case<'_>, memory: &'m Memory, rooms: &mut Rooms<'m>, word: &str) {
+fn add_rooms<'m>(case: &Case, memory: &'m Memory, rooms: &mut Rooms<'m>, word: &str) {
     let (count, size) = case.times(word);
     let size = case.decimal(size) as usize;
     let event = Event::Retire {
@@ -84,7 +84,7 @@ fn add_rooms<'m>(case: &mut Case<'_>, memory: &'m Memory, rooms: &mut Rooms<'m>,
 }
 
 /// The lists that a run is handed, of the sizes `rooms`, with commas between them.
-fn rooms_of<'m>(case: &mut Case<'_>, memory: &'m Memory) -> Rooms<'m> {
+fn rooms_of<'m>(case: &Case, memory: &'m Memory) -> Rooms<'m> {
     let mut rooms = Vec::new(memory);
     for word in case.named("rooms").split(',') {
         if !word.is_empty() {
@@ -95,11 +95,7 @@ fn rooms_of<'m>(case: &mut Case<'_>, memory: &'m Memory) -> Rooms<'m> {
 }
 
 /// Appends what comes of a replay or a run, or why nothing is sent.
-fn put_answer<A: Allocator>(
-    case: &mut Case<'_>,
-    answer: Result<Outcome<A>, Setup>,
-    logs: &[LegalLog<'_>],
-) {
+fn put_answer<A: Allocator>(case: &Case, answer: Result<Outcome<A>, Setup>, logs: &[LegalLog<'_>]) {
     match answer {
         Ok(outcome) => put_outcome(case, &outcome, logs),
         Err(fault) => case.put_part(fault),
@@ -107,7 +103,7 @@ fn put_answer<A: Allocator>(
 }
 
 /// `replay SETTINGS`: what comes of a replay, or why nothing is sent.
-pub(crate) fn replayed(case: &mut Case<'_>, program: &Program) {
+pub(crate) fn replayed(case: &Case, program: &Program) {
     let config = config_of(case);
     let logs = logs_in(case, program);
     let turns = turns_of(case);
@@ -126,7 +122,7 @@ struct Plan<'l, 'p> {
 }
 
 /// Notes where a message is left in a funnel, or it has not ended.
-fn check_end<R: Wait>(case: &mut Case<'_>, rt: &R, outlet: &mut Outlet) {
+fn check_end<R: Wait>(case: &Case, rt: &R, outlet: &mut Outlet) {
     if outlet.take(rt) != Err(Ended) {
         case.put_part("a message is left");
     }
@@ -134,7 +130,7 @@ fn check_end<R: Wait>(case: &mut Case<'_>, rt: &R, outlet: &mut Outlet) {
 
 /// A run over the ends of a funnel that is opened before, of `room` messages.
 fn run_over_ends<'m, R: Threads + Wait + Sync>(
-    case: &mut Case<'_>,
+    case: &Case,
     rt: &R,
     memory: &'m Memory,
     plan: &Plan<'_, '_>,
@@ -160,7 +156,7 @@ fn run_over_ends<'m, R: Threads + Wait + Sync>(
 
 /// A run with the lists `rooms`.
 fn run_with_lists<'m, R: Threads + Wait + Sync>(
-    case: &mut Case<'_>,
+    case: &Case,
     rt: &R,
     memory: &'m Memory,
     plan: &Plan<'_, '_>,
@@ -178,12 +174,7 @@ fn run_with_lists<'m, R: Threads + Wait + Sync>(
 }
 
 /// Appends what comes of a run: over the ends of a funnel of `room` messages, with the lists `rooms`, or of its own.
-fn put_run<R: Threads + Wait + Sync>(
-    case: &mut Case<'_>,
-    rt: &R,
-    memory: &Memory,
-    plan: &Plan<'_, '_>,
-) {
+fn put_run<R: Threads + Wait + Sync>(case: &Case, rt: &R, memory: &Memory, plan: &Plan<'_, '_>) {
     let rooms = rooms_of(case, memory);
     let before = memory.requests();
     let answer = if case.value("room").is_some() {
@@ -200,7 +191,7 @@ fn put_run<R: Threads + Wait + Sync>(
 }
 
 /// A count that the gate of a run adds to, and that its memory looks at.
-fn counter(case: &mut Case<'_>) -> Option<(Arc<AtomicU64>, Arc<AtomicU64>)> {
+fn counter(case: &Case) -> Option<(Arc<AtomicU64>, Arc<AtomicU64>)> {
     let Ok(sent) = Arc::new(case.alloc, AtomicU64::new(0)) else {
         case.no_memory();
         return None;
@@ -216,18 +207,14 @@ fn counter(case: &mut Case<'_>) -> Option<(Arc<AtomicU64>, Arc<AtomicU64>)> {
 
 /// The gate of a run, which counts what is sent. The second hart sends after `first` messages of the first one, or both
 /// wait for one another.
-fn gate_of(case: &mut Case<'_>, sent: Arc<AtomicU64>, harts: usize) -> Calls {
+fn gate_of(case: &Case, sent: Arc<AtomicU64>, harts: usize) -> Calls {
     let first = case.number("first", 0);
     Calls::new(case, sent, harts, first)
 }
 
 /// `run SETTINGS`: what comes of a run over threads, or why nothing is sent; and how many calls of the gate each hart
 /// makes.
-pub(crate) fn run_over_threads<R: Threads + Wait + Sync>(
-    case: &mut Case<'_>,
-    rt: &R,
-    program: &Program,
-) {
+pub(crate) fn run_over_threads<R: Threads + Wait + Sync>(case: &Case, rt: &R, program: &Program) {
     let config = config_of(case);
     let logs = logs_in(case, program);
     let Some((sent, theirs)) = counter(case) else {
@@ -246,7 +233,7 @@ pub(crate) fn run_over_threads<R: Threads + Wait + Sync>(
 }
 
 /// The arguments of the subcommand `bench` with these settings, and with no paths.
-fn asked_with<'a>(case: &Case<'_>, config: Config) -> Bench<'a> {
+fn asked_with<'a>(case: &Case, config: Config) -> Bench<'a> {
     Bench {
         program: ProgramArgs {
             base: "",
@@ -263,7 +250,7 @@ fn asked_with<'a>(case: &Case<'_>, config: Config) -> Bench<'a> {
 
 /// `bench SETTINGS`: what the subcommand `bench` prints of the logs, and how it ends; and how many calls of the gate each
 /// hart makes.
-pub(crate) fn benched<R: Threads + Wait + Sync>(case: &mut Case<'_>, rt: &R, program: &Program) {
+pub(crate) fn benched<R: Threads + Wait + Sync>(case: &Case, rt: &R, program: &Program) {
     let config = config_of(case);
     let logs = logs_in(case, program);
     let Some((sent, _)) = counter(case) else {
@@ -285,7 +272,7 @@ pub(crate) fn benched<R: Threads + Wait + Sync>(case: &mut Case<'_>, rt: &R, pro
 
 /// `heap SIZE replay|run SETTINGS`: what comes of a replay or a run in a heap of so many bytes, and how many are used
 /// then.
-pub(crate) fn in_heap<R: Threads + Wait + Sync>(case: &mut Case<'_>, rt: &R, program: &Program) {
+pub(crate) fn in_heap<R: Threads + Wait + Sync>(case: &Case, rt: &R, program: &Program) {
     let (size, way) = (case.word(), case.word());
     let size = case.decimal(size) as usize;
     let config = config_of(case);
@@ -322,7 +309,7 @@ fn are_alike(one: &Outcome, other: &Outcome) -> bool {
 
 /// Appends what comes of a run over threads, and whether the same comes of a replay.
 fn put_both<R: Threads + Wait + Sync>(
-    case: &mut Case<'_>,
+    case: &Case,
     rt: &R,
     by_turns: &Outcome,
     logs: &[LegalLog<'_>],
@@ -340,7 +327,7 @@ fn put_both<R: Threads + Wait + Sync>(
 }
 
 /// `alike SETTINGS`: what comes of a run over threads, and whether the same comes of a replay.
-pub(crate) fn alike<R: Threads + Wait + Sync>(case: &mut Case<'_>, rt: &R, program: &Program) {
+pub(crate) fn alike<R: Threads + Wait + Sync>(case: &Case, rt: &R, program: &Program) {
     let config = config_of(case);
     let logs = logs_in(case, program);
     let turns = turns_of(case);

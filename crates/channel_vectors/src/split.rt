@@ -5,7 +5,7 @@ use message::{Demux, DemuxFault, Message};
 use payload::Packet;
 
 /// `demux HARTS`: a new demultiplexer.
-pub(crate) fn begin(case: &mut Case<'_>) -> Option<Demux> {
+pub(crate) fn begin(case: &Case) -> Option<Demux> {
     let harts = case.word();
     let harts = case.short(harts);
     case.sets();
@@ -28,7 +28,7 @@ fn answer(demux: &mut Demux, call: &str, message: &Message) -> Result<(Packet, u
 }
 
 /// Appends what a call returns for a message, and which harts are closed then.
-fn put_answer(case: &mut Case<'_>, demux: &mut Demux, call: &str, message: &Message) {
+fn put_answer(case: &Case, demux: &mut Demux, call: &str, message: &Message) {
     match answer(demux, call, message) {
         Ok((packet, missing)) => {
             if payload::unpack(message.payload.bytes()) != Ok(packet) {
@@ -49,7 +49,7 @@ fn put_answer(case: &mut Case<'_>, demux: &mut Demux, call: &str, message: &Mess
 
 /// `accept next|lossy MESSAGE`: how many numbers are missing before the message, whose packet is returned, or why it is
 /// refused; and which of the harts 0, 1, 2 and 65535 are closed then.
-pub(crate) fn accept(case: &mut Case<'_>, known: &mut Option<Demux>) {
+pub(crate) fn accept(case: &Case, known: &mut Option<Demux>) {
     let (call, word) = (case.word(), case.word());
     let message = message_of(case, word);
     let Some(demux) = known.as_mut() else {

@@ -43,7 +43,7 @@ fn value_in<'t>(word: &'t str, name: &str) -> &'t str {
 }
 
 /// The same as a number, or 0 where there is none.
-fn number_in(case: &mut Case<'_>, word: &str, name: &str) -> u64 {
+fn number_in(case: &Case, word: &str, name: &str) -> u64 {
     let digits = value_in(word, name);
     if digits.is_empty() {
         return 0;
@@ -52,7 +52,7 @@ fn number_in(case: &mut Case<'_>, word: &str, name: &str) -> u64 {
 }
 
 /// The log of `ROWS`, `ROWS:twice=N`, `ROWS:bad=N` and the like.
-fn log_in<'t>(case: &mut Case<'_>, word: &'t str) -> Log<'t> {
+fn log_in<'t>(case: &Case, word: &'t str) -> Log<'t> {
     Log {
         rows: case.decimal(cut(word, ':').0),
         twice: number_in(case, word, "twice="),
@@ -61,9 +61,9 @@ fn log_in<'t>(case: &mut Case<'_>, word: &'t str) -> Log<'t> {
     }
 }
 
-/// The text of a log, which came in a case of its own.
-fn text_of<'a>(case: &Case<'a>, log: Log<'_>) -> Case<'a> {
-    let mut text = case.again();
+/// The text of a log.
+fn text_of(case: &Case, log: Log<'_>) -> String {
+    let text = case.over("");
     text.put(HEADER);
     let mut second = 0;
     for row in 1..log.rows.saturating_add(1) {
@@ -77,11 +77,12 @@ fn text_of<'a>(case: &Case<'a>, log: Log<'_>) -> Case<'a> {
         text.put(log.last);
         text.put("\n");
     }
-    text
+    case.join(&text);
+    text.taken()
 }
 
 /// The kind of a file with this name.
-fn kind_of(case: &mut Case<'_>, name: &str) -> Kind {
+fn kind_of(case: &Case, name: &str) -> Kind {
     match name {
         "regular" => Kind::Regular,
         "pipe" => Kind::Pipe,
@@ -98,19 +99,18 @@ fn kind_of(case: &mut Case<'_>, name: &str) -> Kind {
 }
 
 /// Adds a file, `KIND:LOG`.
-fn add_file(case: &mut Case<'_>, table: &mut Table, file: &str) {
+fn add_file(case: &Case, table: &mut Table, file: &str) {
     let (name, rest) = cut(file, ':');
     let kind = kind_of(case, name);
     let log = log_in(case, rest);
     let text = text_of(case, log);
-    case.join(&text);
-    table.put(case, kind, text.came);
+    table.put(case, kind, text);
 }
 
 /// The files of arguments, each `KIND:LOG`.
-fn table_of(case: &mut Case<'_>) -> Table {
+fn table_of(case: &Case) -> Table {
     let mut table = Table::new(case.alloc);
-    for word in case.text.split_whitespace() {
+    for word in case.text().split_whitespace() {
         if !word.starts_with("most=") {
             let (count, file) = case.times(word);
             for _ in 0..count {
@@ -121,27 +121,27 @@ fn table_of(case: &mut Case<'_>) -> Table {
     table
 }
 
-/// The paths of so many files, as words that came in a case of its own.
-fn names_of<'a>(case: &Case<'a>, count: usize) -> Case<'a> {
-    let mut names = case.again();
+/// The paths of so many files, as words.
+fn names_of(case: &Case, count: usize) -> String {
+    let names = case.over("");
     for number in 0..count {
         names.put_word(number);
     }
-    names
+    case.join(&names);
+    names.taken()
 }
 
 /// The paths as they are handed over.
-fn paths_of<'n>(case: &mut Case<'_>, names: &'n Case<'_>) -> Vec<&'n str> {
-    case.join(names);
+fn paths_of<'n>(case: &Case, names: &'n str) -> Vec<&'n str> {
     let mut paths = Vec::new(case.alloc);
-    for name in names.came.split_whitespace() {
+    for name in names.split_whitespace() {
         case.push(&mut paths, name);
     }
     paths
 }
 
 /// Appends the path and the fault of the first log of which nothing is made, if there is one.
-fn put_end(case: &mut Case<'_>, end: Result<(), LogsFault<'_>>) {
+fn put_end(case: &Case, end: Result<(), LogsFault<'_>>) {
     let Err(LogsFault { path, why }) = end else {
         return;
     };
@@ -156,7 +156,7 @@ fn put_end(case: &mut Case<'_>, end: Result<(), LogsFault<'_>>) {
 /// Appends which files were not opened as they have to be where something was made of so many logs: each of them and the
 /// next one once, no other twice, and if the next one is in no regular file, no later one that is in none. Appends whether
 /// pipes were not opened in their order, each once the one before it was read to its end.
-fn put_opens(case: &mut Case<'_>, table: &Table, made: usize) {
+fn put_opens(case: &Case, table: &Table, made: usize) {
     let mut is_over = false;
     let mut after = 0;
     for (number, file) in table.files.iter().enumerate() {
@@ -182,7 +182,7 @@ fn put_opens(case: &mut Case<'_>, table: &Table, made: usize) {
 }
 
 /// The most rows that a log may have.
-fn most_of(case: &mut Case<'_>) -> u32 {
+fn most_of(case: &Case) -> u32 {
     case.number("most", u64::from(MOST_ROWS))
         .min(u64::from(u32::MAX)) as u32
 }
@@ -203,7 +203,7 @@ fn are_of_loop(events: &[Event]) -> bool {
 }
 
 /// Appends a fault, the event of its row and the one before it.
-fn put_illegal(case: &mut Case<'_>, row: &IllegalRow) {
+fn put_illegal(case: &Case, row: &IllegalRow) {
     case.put_word(row.fault);
     put_rows(case, &[row.event]);
     if let Some(before) = row.before {
@@ -213,7 +213,7 @@ fn put_illegal(case: &mut Case<'_>, row: &IllegalRow) {
 }
 
 /// Appends how many events of the loop a log has, or its first illegal row.
-fn put_collected(case: &mut Case<'_>, hart: usize, one: &Collected) {
+fn put_collected(case: &Case, hart: usize, one: &Collected) {
     match &one.row {
         Some(row) => put_illegal(case, row),
         None => {
@@ -227,11 +227,11 @@ fn put_collected(case: &mut Case<'_>, hart: usize, one: &Collected) {
 
 /// `logs [most=N] FILES` and `logs-collected FILES`: how many events of the loop the logs of files have, and the first fault;
 /// or illegal rows by a task that refuses no log. Where a file is opened otherwise than it has to be, that is said.
-pub(crate) fn made<R: Threads + Sync>(case: &mut Case<'_>, rt: &R, verb: &str) {
+pub(crate) fn made<R: Threads + Sync>(case: &Case, rt: &R, verb: &str) {
     let table = table_of(case);
     let most = most_of(case);
     let names = names_of(case, table.files.len());
-    let paths = paths_of(case, &names);
+    let paths = paths_of(case, names.as_str());
     let Some(program) = program_of(case.alloc, WORDS) else {
         return case.unread();
     };
@@ -251,13 +251,13 @@ pub(crate) fn made<R: Threads + Sync>(case: &mut Case<'_>, rt: &R, verb: &str) {
 
 /// `early STEPS`: how many of three pipes are counted as opened before the one before is read to its end. Steps are
 /// `open=N`, `read=N` and, to its end, `end=N`.
-pub(crate) fn early(case: &mut Case<'_>) {
+pub(crate) fn early(case: &Case) {
     let mut table = Table::new(case.alloc);
     for _ in 0..3u32 {
         let text = String::new(case.alloc);
         table.put(case, Kind::Pipe, text);
     }
-    for step in case.text.split_whitespace() {
+    for step in case.text().split_whitespace() {
         match step.split_once('=') {
             Some(("open", path)) => {
                 if table.open_file(path).is_err() {

@@ -30,7 +30,7 @@ impl<'p> Vectors<'p> {
     }
 
     /// Appends what a case of messages, the demultiplexer or the queue gives.
-    fn answer_alone(&mut self, case: &mut Case<'_>, verb: &str) {
+    fn answer_alone(&mut self, case: &Case, verb: &str) {
         match verb {
             "stream" | "messages" => messages::from_stream(case, verb),
             "fault" => messages::fault(case),
@@ -45,7 +45,7 @@ impl<'p> Vectors<'p> {
     }
 
     /// Appends what a case of the ends of a channel gives, or one of those.
-    fn answer_at_ends<R: Wait>(&mut self, rt: &R, case: &mut Case<'_>, verb: &str) {
+    fn answer_at_ends<R: Wait>(&mut self, rt: &R, case: &Case, verb: &str) {
         match verb {
             "channel" => self.ends = ports::opened(case),
             "send" | "receive" | "settle" | "finish" | "drop" => {
@@ -56,12 +56,7 @@ impl<'p> Vectors<'p> {
     }
 
     /// Appends what a case that starts threads gives, or one of those.
-    fn answer_in_threads<R: Threads + Wait + Sync>(
-        &mut self,
-        rt: &R,
-        case: &mut Case<'_>,
-        verb: &str,
-    ) {
+    fn answer_in_threads<R: Threads + Wait + Sync>(&mut self, rt: &R, case: &Case, verb: &str) {
         let program = self.program;
         match verb {
             "run" => runs::run_over_threads(case, rt, program),
@@ -78,7 +73,7 @@ impl<'p> Vectors<'p> {
     }
 
     /// Appends what a case gives. Where there is no such verb, or its arguments are not read, that is noted.
-    pub(crate) fn answer<R: Threads + Wait + Sync>(&mut self, rt: &R, case: &mut Case<'_>) {
+    pub(crate) fn answer<R: Threads + Wait + Sync>(&mut self, rt: &R, case: &Case) {
         let program = self.program;
         match case.word() {
             "replay" => runs::replayed(case, program),

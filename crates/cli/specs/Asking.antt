@@ -12,7 +12,7 @@ use Rattle.payload.specs.declared.mode.Mode.{Mode}
 use Rattle.payload.specs.declared.mode.Mode.TheVariants.{Differential, Full}
 use Rattle.command_inputs.specs.Kind.{IsGenerate, WritesAsItReads}
 use Rattle.command_inputs.specs.Limits.{AreBitsIfGiven, IsUpToIfGiven, fewest_number_bits, greatest_first}
-use Rattle.command_inputs.specs.Limits.{longest_burst, longest_period, most_messages, most_number_bits}
+use Rattle.command_inputs.specs.Limits.{longest_burst, longest_period, most_in_view, most_messages, most_number_bits}
 use Rattle.retire.specs.Log.{most_long_rows}
 use Rattle.stimulus.specs.Mix.{IsNamed}
 use Rattle.command_inputs.specs.declared.words.Asked.{Asked}
@@ -178,7 +178,8 @@ Asks name rows (Bench asked) = (name ≡ codes "bench") × AsksProgram rows aske
     × IsFlag (one_of (codes "progress") rows) asked.progress
     × (map (λ log. log.now) asked.logs.items ≡ texts_of (codes "LOG") rows)
 Asks name rows (Audit asked) = (name ≡ codes "audit") × IsFlag (one_of (codes "packets") rows) asked.packets
-    × IsFlag (one_of (codes "unnumbered") rows) asked.unnumbered
+    × IsFlag (one_of (codes "unnumbered") rows) asked.unnumbered × IsFlag (one_of (codes "live") rows) asked.live
+    × IsGivenUpTo most_in_view (one_of (codes "window") rows) asked.window
     × (option_map (λ text. text.now) asked.only ≡ first_of (codes "only") rows)
     × IsFlag (one_of (codes "summary") rows) asked.summary
     × IsFormat (text_of (codes "format") rows) asked.format × IsFlag (one_of (codes "progress") rows) asked.progress

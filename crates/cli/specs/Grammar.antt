@@ -26,8 +26,8 @@ all_apps =
     rule.progress ∷ rule.image ∷ rule.schedule ∷ rule.logs ∷ []) ∷
     with_arguments (codes "bench") (rule.base ∷ rule.also ∷ rule.period ∷ rule.full ∷ rule.capacity ∷ rule.progress ∷
     rule.image ∷ rule.logs ∷ []) ∷
-    with_arguments (codes "audit") (rule.packets ∷ rule.unnumbered ∷ rule.only ∷ rule.summary ∷ rule.format ∷
-    rule.progress ∷ rule.sent ∷ rule.received ∷ []) ∷
+    with_arguments (codes "audit") (rule.packets ∷ rule.unnumbered ∷ rule.live ∷ rule.window ∷ rule.only ∷
+    rule.summary ∷ rule.format ∷ rule.progress ∷ rule.sent ∷ rule.received ∷ []) ∷
     with_arguments (codes "measure") (rule.base ∷ rule.also ∷ rule.period ∷ rule.full ∷ rule.long ∷ rule.progress ∷
     rule.image ∷ rule.logs ∷ []) ∷
     with_arguments (codes "list") (rule.base ∷ rule.also ∷ rule.given_harts ∷ rule.only ∷ rule.symbols ∷ rule.rows ∷

@@ -12,7 +12,7 @@ use Rattle.message.specs.Version.{most_harts}
 use Rattle.retire.specs.Log.{most_long_rows}
 use Rattle.message.specs.declared.header.Version.TheVariants.{Two}
 use Rattle.command_inputs.specs.Limits.{fewest_number_bits, greatest_first, longest_burst, longest_period}
-use Rattle.command_inputs.specs.Limits.{most_messages, most_number_bits}
+use Rattle.command_inputs.specs.Limits.{most_in_view, most_messages, most_number_bits}
 
 -- `--name`, which takes no value.
 abbrev pub flag_rule : Text → Rule
@@ -129,6 +129,9 @@ image = file_rule (codes "IMAGE")
 abbrev pub lines : Rule
 lines = file_rule (codes "LINES")
 
+abbrev pub live : Rule
+live = flag_rule (codes "live")
+
 abbrev pub logs : Rule
 logs = record (file_rule (codes "LOG")) { action = Some Append; range = Some one_or_more }
 
@@ -203,6 +206,9 @@ version_one = flag_rule (codes "v1")
 
 abbrev pub what : Rule
 what = file_rule (codes "WHAT")
+
+abbrev pub window : Rule
+window = number_rule (codes "window") (long_parser most_in_view)
 
 -- The argument is read by this rule, and by its own subcommand alone.
 abbrev pub IsReadBy : Rule → Arg → Type 0

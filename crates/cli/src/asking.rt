@@ -13,7 +13,7 @@ use crate::grammar::program;
 use clap::{ArgMatches, Error};
 use command_inputs::{
     Asked, Audit, Bench, Capture, Check, Compare, Decode, Dump, Encode, FEWEST_NUMBER_BITS, Format,
-    GREATEST_FIRST, Generate, LONGEST_BURST, LONGEST_PERIOD, Listing, MOST_MESSAGES,
+    GREATEST_FIRST, Generate, LONGEST_BURST, LONGEST_PERIOD, Listing, MOST_IN_VIEW, MOST_MESSAGES,
     MOST_NUMBER_BITS, Measure, Product, ProgramArgs, Replay, SHORTEST_PERIOD, SMALLEST_CAPACITY,
     Salvage,
 };
@@ -276,6 +276,8 @@ fn audit_asked<'a>(given: &ArgMatches<'a>) -> Asked<'a>
     Asked::Audit(Audit {
         packets: flag(given, "packets"),
         unnumbered: flag(given, "unnumbered"),
+        live: flag(given, "live"),
+        window: given_long(given, "window", MOST_IN_VIEW),
         only: given_text(given, "only"),
         summary: flag(given, "summary"),
         format: format(given),
@@ -447,8 +449,8 @@ fn asked_of<'a>(alloc: Global, name: &str, given: &ArgMatches<'a>) -> Result<Ask
 ///
 /// `Ok` comes where `clap` finds no fault in them by the program's grammar. It holds the texts of the subcommand's
 /// arguments as they are given: a base is not yet a number, and no file was looked at. A period is a number from 1 to
-/// 65535, a count of harts one from 1 to 1024, a first hart one from 0 to 1023, a capacity one from 1 to 65536, and a
-/// count of low bits one from 4 to 32; a seed is any number of 64 bits, a count of events one from 1 to 4294967295, and
+/// 65535, a count of harts one from 1 to 1024, a first hart one from 0 to 1023, a capacity one from 1 to 65536, a
+/// window one from 1 to 16777216, and a count of low bits one from 4 to 32; a seed is any number of 64 bits, a count of events one from 1 to 4294967295, and
 /// one of messages from 1 to 2^40. Where no such number is given, a period is 1024, the count of harts of `decode` and
 /// `compare` 1, a capacity 16, and a seed 1; other counts, a first hart and all numbers of `generate` but the seed are
 /// none then. A capture is of version 1 with `--v1`, and else of version 2.

@@ -6,7 +6,7 @@ ghost use Rattle.cli.specs.steps.Subcommands.{argument_rule, reading_rule};
 use clap::builder::ValueParser;
 use clap::{Arg, ArgAction};
 use command_inputs::{
-    FEWEST_NUMBER_BITS, GREATEST_FIRST, LONGEST_BURST, LONGEST_PERIOD, MOST_MESSAGES,
+    FEWEST_NUMBER_BITS, GREATEST_FIRST, LONGEST_BURST, LONGEST_PERIOD, MOST_IN_VIEW, MOST_MESSAGES,
     MOST_NUMBER_BITS, SHORTEST_PERIOD, SMALLEST_CAPACITY,
 };
 use message::{MOST_CAPACITY, MOST_HARTS};
@@ -77,6 +77,9 @@ const SEEDS: ValueParser<'static> = ValueParser::Unsigned(0, u64::MAX);
 
 /// Counts of rows, 1 to 4294967295.
 const COUNTS_OF_ROWS: ValueParser<'static> = ValueParser::Unsigned(1, MOST_LONG_ROWS as u64);
+
+/// Windows, 1 to 16777216.
+const WINDOWS: ValueParser<'static> = ValueParser::Unsigned(1, MOST_IN_VIEW);
 
 /// Counts of messages, 1 to 2^40.
 const COUNTS_OF_MESSAGES: ValueParser<'static> = ValueParser::Unsigned(1, MOST_MESSAGES);
@@ -224,6 +227,11 @@ pub(crate) const LISTED_HARTS: Argument = Argument {
     help: "How many harts a capture of version 1 may have, 1 to 1024; without it, 1, with --salvage those of its messages",
 };
 
+pub(crate) const LIVE: Argument = Argument {
+    reading: Reading::Flag("live"),
+    help: "Read both files side by side as they come, and print each line as soon as it is decided",
+};
+
 pub(crate) const LOGS: Argument = Argument {
     reading: Reading::Files("LOG"),
     help: "Logs, each of one hart, as CSV",
@@ -357,6 +365,11 @@ pub(crate) const VERSION_ONE: Argument = Argument {
 pub(crate) const WHAT: Argument = Argument {
     reading: Reading::File("WHAT"),
     help: "What is made: image, log or capture",
+};
+
+pub(crate) const WINDOW: Argument = Argument {
+    reading: Reading::Number("window", "N", WINDOWS),
+    help: "With --live, how many messages before and after the front are looked at, 1 to 16777216; without it, 65536",
 };
 
 pub(crate) const WITHOUT_LOGS: Argument = Argument {

@@ -4,7 +4,7 @@ use Rattle.message.specs.declared.header.Version.{Version}
 use Rattle.message.specs.declared.header.Version.TheVariants.{One, Two}
 use Rattle.command_inputs.specs.declared.words.Capture.{Capture as AskedCapture}
 use Rattle.command_inputs.specs.declared.words.Asked.{Asked}
-use Rattle.command_inputs.specs.declared.words.Asked.TheVariants.{Capture, Check, Generate}
+use Rattle.command_inputs.specs.declared.words.Asked.TheVariants.{Audit, Capture, Check, Generate}
 
 -- What a capture begins with is known before its messages: nothing in version 1, and else the header, where the count of
 -- harts is given.
@@ -17,10 +17,11 @@ is_known Two (Some harts) = true
 abbrev pub is_streamed : AskedCapture → Bool
 is_streamed asked = is_known asked.version asked.harts
 
--- What is asked is a run that writes before it has read its input: one of `check`, or one of `capture` that writes lines
--- as they come.
+-- What is asked is a run that writes before it has read its input: one of `check`, one of `audit` while messages come, or
+-- one of `capture` that writes lines as they come.
 abbrev pub WritesAsItReads : Asked → Type 0
 WritesAsItReads (Check asked) = Unit {0}
+WritesAsItReads (Audit asked) = asked.live ≡ true
 WritesAsItReads (Capture asked) = is_streamed asked ≡ true
 WritesAsItReads _ = ⊥
 

@@ -6,8 +6,8 @@ use Rattle.message.specs.declared.header.Version.TheVariants.{Two}
 use Rattle.retire.specs.Log.{most_long_rows}
 use Rattle.command_inputs.specs.declared.words.Generate.{Generate as AskedGenerate}
 use Rattle.command_inputs.specs.declared.words.Asked.{Asked}
-use Rattle.command_inputs.specs.declared.words.Asked.TheVariants.{Bench, Capture, Compare, Decode, Encode, Generate}
-use Rattle.command_inputs.specs.declared.words.Asked.TheVariants.{Listing, Measure, Replay, Salvage}
+use Rattle.command_inputs.specs.declared.words.Asked.TheVariants.{Audit, Bench, Capture, Compare, Decode, Encode}
+use Rattle.command_inputs.specs.declared.words.Asked.TheVariants.{Generate, Listing, Measure, Replay, Salvage}
 
 -- The most retirements from one periodic synchronisation to the next.
 abbrev pub longest_period : ℕ
@@ -37,6 +37,10 @@ most_messages = 2 ^ 40
 abbrev pub longest_burst : ℕ
 longest_burst = 65535
 
+-- The most messages that were sent that may be asked to be in view before the front, and after it.
+abbrev pub most_in_view : ℕ
+most_in_view = 16777216
+
 -- The fewest low bits of a number that lines may have.
 abbrev pub fewest_number_bits : ℕ
 fewest_number_bits = 4
@@ -58,7 +62,7 @@ IsGenerateWithin asked =
     × IsUpToIfGiven longest_burst asked.burst
 
 -- A period is 1 to 65535 retirements, a count of harts 1 to 1024, a first hart 0 to 1023, a capacity 1 to 65536
--- messages, and a count of low bits 4 to 32.
+-- messages, a window 1 to 16777216 messages, and a count of low bits 4 to 32.
 abbrev pub IsWithinLimits : Asked → Type 0
 IsWithinLimits (Encode asked) =
     (1 ≤ asked.period) × (asked.period ≤ longest_period) × IsFirstIfGiven asked.first × IsCountIfGiven asked.of
@@ -67,6 +71,7 @@ IsWithinLimits (Replay asked) =
     (1 ≤ asked.period) × (asked.period ≤ longest_period) × (1 ≤ asked.capacity) × (asked.capacity ≤ most_capacity)
 IsWithinLimits (Bench asked) =
     (1 ≤ asked.period) × (asked.period ≤ longest_period) × (1 ≤ asked.capacity) × (asked.capacity ≤ most_capacity)
+IsWithinLimits (Audit asked) = IsUpToIfGiven most_in_view asked.window
 IsWithinLimits (Measure asked) = (1 ≤ asked.period) × (asked.period ≤ longest_period)
 IsWithinLimits (Listing asked) = IsCountIfGiven asked.harts
 IsWithinLimits (Salvage asked) = IsCountIfGiven asked.harts

@@ -30,7 +30,7 @@ pub use inputs::{
 };
 pub use legal_logs::legal_logs_of;
 pub use limits::{
-    FEWEST_NUMBER_BITS, GREATEST_FIRST, LONGEST_BURST, LONGEST_PERIOD, MOST_MESSAGES,
+    FEWEST_NUMBER_BITS, GREATEST_FIRST, LONGEST_BURST, LONGEST_PERIOD, MOST_IN_VIEW, MOST_MESSAGES,
     MOST_NUMBER_BITS, SHORTEST_PERIOD, SMALLEST_CAPACITY,
 };
 pub use log_streams::{FileFault, FileReader, Files};

@@ -21,6 +21,9 @@ pub const MOST_MESSAGES: u64 = 1 << 40;
 /// The most messages of one hart that may be asked to come one after another.
 pub const LONGEST_BURST: u16 = 65535;
 
+/// The most messages that were sent that may be asked to be in view before the front, and after it.
+pub const MOST_IN_VIEW: u64 = 16_777_216;
+
 /// The most bytes of an image, or of a further piece of one.
 pub(crate) const LARGEST_PIECE: usize = 16_777_216;
 

@@ -143,14 +143,18 @@ pub enum Format {
     Other,
 }
 
-/// `audit [--packets] [--unnumbered] [--only A-B] [--summary] [--format FORMAT] [--progress] SENT RECEIVED`: what became
-/// of the messages of one capture, by another capture of what arrived.
+/// `audit [--packets] [--unnumbered] [--live] [--window N] [--only A-B] [--summary] [--format FORMAT] [--progress] SENT
+/// RECEIVED`: what became of the messages of one capture, by another capture of what arrived.
 #[derive(Drop)]
 pub struct Audit<'a> {
     /// Whether a message is compared by the packet that its payload unpacks to, and not by its bytes.
     pub packets: bool,
     /// Whether the numbers of what arrived are not looked at.
     pub unnumbered: bool,
+    /// Whether both captures are read side by side, as they come, by a window of the one that was sent.
+    pub live: bool,
+    /// How many messages that were sent may be in view before the front and after it, 1 to 16,777,216, where it is given.
+    pub window: Option<u64>,
     /// The harts whose messages are wanted, not yet read as `A-B` or `A`, where not all are.
     pub only: Option<&'a str>,
     /// Whether the lines of single messages, of bytes that are no message and of lost numbers are left out.

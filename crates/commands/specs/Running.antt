@@ -13,8 +13,9 @@ use Rattle.commands.specs.Order.{early_fault}
 
 -- What is asked was done, and ended so. The output has these contents. However that is, also where the output fails,
 -- nothing or a prefix of the text was written (`cut`), and where allocation fails too (`begun`). Then only `check`,
--- `decode --lossy`, `list` without `--salvage` and `capture` of lines as they come may have written anything (`untouched`).
--- Where the input is refused, nothing is written, but by `check` and by `capture` of lines as they come (`refused`).
+-- `decode --lossy`, `list` without `--salvage`, `audit --live` and `capture` of lines as they come may have written anything
+-- (`untouched`). Where the input is refused, nothing is written, but by `check`, by `audit --live` and by `capture` of lines
+-- as they come (`refused`).
 pub record IsRun {O : Type 0} (content : Content) (asked : Asked) (contents : O → Option (List ℕ))
     (ended : Result Status Fault) (old new : O) : Type 0 where
   pub cut : IsCutOutput content asked (contents old) (contents new)

@@ -42,7 +42,8 @@ where
     // fails.
     ensures words { AreRefused (map string_bytes words.now) → (out.new ≡ out.old) × ((result ≡ 2)
         ⊎ ((result ≡ 3) × ReportsFault E.contents (Err Fault.Memory) err.old err.new)) }
-    // Where the input is refused, nothing is written, but by `check` and by `capture` of lines as they come.
+    // Where the input is refused, nothing is written, but by `check`, by `audit` while messages come and by `capture` of
+    // lines as they come.
     ensures refused { AskToWriteAtOnce (map string_bytes words.now) → result ≡ 2 → out.new ≡ out.old }
     // Where all is done, nothing is written to `err`.
     ensures quiet { result ≡ 0 → err.new ≡ err.old }

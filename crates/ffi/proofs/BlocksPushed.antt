@@ -1,9 +1,10 @@
 -- Events are pushed block by block.
-use Prim.Native.Nat.{zero, suc}
+use Prim.Native.Nat.{suc}
 use Rattle.std.proofs.Common.{◌≡◌, ℕ, ◌+◌, ◌-◌, ◌<◌, ◌≤◌, List, ◌∷◌, [], ◌++◌, drop}
 use Rattle.std.proofs.Common.{length, map, take, refl, sym, ap, subst, ◌∙◌, arith}
 use Rattle.std.specs.Prelude.{slice_set}
-use Rattle.std.proofs.lemmas.List.{append-nil, length-append, length-drop, length-map, length-set, map-append}
+use Rattle.std.proofs.Math.Seq.{take-add}
+use Rattle.std.proofs.lemmas.List.{append-nil, length-append, length-drop, length-map, length-set}
 use Rattle.std.proofs.lemmas.List.{drop-drop, length-take, length-take-le, set_split, take-take, take_all}
 use Rattle.encoder.specs.EncoderStands.{EncoderStands}
 use Rattle.encoder.specs.PacketsSoFar.{packets_so_far}
@@ -13,21 +14,13 @@ use Rattle.payload.specs.declared.mode.Mode.{Mode}
 use Rattle.payload.specs.declared.packet.Packet.{Packet}
 use Rattle.retire.specs.declared.event.Event.{Event}
 use Rattle.rvclass.specs.Words.{Words}
-use Rattle.ffi.proofs.PushedInTurn.{goes_more, goes_none, turn_more, turn_none, turn_run}
-use Rattle.ffi.proofs.WrittenInTurn.{behind_front, front_more}
+use Rattle.ffi.proofs.PushedInTurn.{goes_more, goes_none, pushed_on, turn_more, turn_none, turn_run}
+use Rattle.ffi.proofs.WrittenInTurn.{front_more}
 use Rattle.ffi.specs.Events.{numbers_of_event}
 use Rattle.ffi.specs.Numbers.{numbers_of}
 use Rattle.ffi.specs.declared.events.EventNumbers.{EventNumbers}
 use Rattle.ffi.specs.declared.numbers.PacketNumbers.{PacketNumbers}
 use Rattle.ffi.specs.steps.PushingAll.{ArePushed, GivesInTurn, GoesOn, IsBlockPushed, IsPartPushed}
-
--- A beginning is a shorter one and what is after that.
-pub take_join : {X : Type 0} (n m : ℕ) (xs : List X) → take (n + m) xs ≡ take n xs ++ take m (drop n xs)
-take_join zero m xs = let on : zero + m ≡ m = omega arith in ap (λ k. take k xs) on
-take_join (suc n) m [] = take_all (suc n + m) [] (omega arith) ∙ sym (take_all m [] (omega arith))
-take_join (suc n) m (x ∷ xs) =
-    let on : suc n + m ≡ suc (n + m) = omega arith in
-    ap (λ k. take k (x ∷ xs)) on ∙ ap (λ ys. x ∷ ys) (take_join n m xs)
 
 -- The events up to one that makes a packet due: none before it makes one due.
 pub quiet_run : (words : Words) (middle after : Encoder) (rest : List Event) (count : ℕ) (packets : List Packet)
@@ -64,7 +57,7 @@ module _ (words : Words) (first : Encoder) (block : List Event) (old : List Pack
       long = ap length lent ∙ length-drop at block
 
       joined : take (at + count) block ≡ take at block ++ take count rest
-      joined = take_join at count block ∙ ap (λ es. take at block ++ take count es) (sym lent)
+      joined = take-add at count block ∙ ap (λ es. take at block ++ take count es) (sym lent)
 
       -- The events up to one that makes a packet due were pushed.
       pub part_more : (packet : Packet) (one : PacketNumbers) → one ≡ numbers_of packet → 1 ≤ count
@@ -154,36 +147,8 @@ pushed_block words first numbers old place size count more middle after block no
     sym (length-map block numbers_of_event)
     ∙ ap length is
     ∙ length-take-le size (drop place numbers) (omega (arith, far, within)) in
-    let room : length part ≡ length old - count =
-    ap length lent
-    ∙ ap length (behind_front numbers_of old before.packets count now (sym before.counted) before.written)
-    ∙ length-drop count old in
     let left : length part ≡ length now - count = ap length lent ∙ length-drop count now in
-    let fit_before = before.fit in
-    let two_before = before.two in
     let few = pushed.few in
-    record {
-      events = before.events ++ block;
-      packets = before.packets ++ pushed.packets;
-      read = take_join place size numbers
-          ∙ ap (λ ns. ns ++ take size (drop place numbers)) before.read
-          ∙ ap (λ ns. map numbers_of_event before.events ++ ns) (sym is)
-          ∙ sym (map-append numbers_of_event before.events block);
-      goes = goes_more words first middle after before.events block before.packets pushed.packets before.goes
-          pushed.goes;
-      turn = turn_more words first middle after before.events block before.packets pushed.packets before.goes
-          before.turn pushed.turn;
-      still = λ none. absurd (omega (arith, none, some));
-      counted = ap (λ n. n + more) before.counted
-          ∙ ap (λ n. length before.packets + n) pushed.counted
-          ∙ sym (length-append before.packets pushed.packets);
-      two = omega (arith, few, all, two_before);
-      fit = omega (arith, few, all, fits, left, room, fit_before);
-      written = back
-          ∙ subst (λ n. take count now ++ tail
-          ≡ map numbers_of (before.packets ++ pushed.packets) ++ drop (count + n) old) (sym pushed.counted)
-          (front_more numbers_of old before.packets pushed.packets count now tail (sym before.counted) before.written
-          (pushed.written
-          ∙ ap (λ ns. map numbers_of pushed.packets ++ drop more ns) lent
-          ∙ ap (λ n. map numbers_of pushed.packets ++ drop n (drop count now)) pushed.counted));
-    }
+    pushed_on words first numbers old place middle after count more now part tail whole lent back before size block
+    pushed.packets some (take-add place size numbers ∙ ap (λ ns. take place numbers ++ ns) (sym is)) pushed.goes
+    pushed.turn pushed.counted (omega (arith, few, all)) (omega (arith, few, all, fits, left)) pushed.written

@@ -51,30 +51,16 @@ waiting_back : (w : Option Waiting) → length (outcomes_waiting w) ≤ most_out
 waiting_back None few = refl
 waiting_back (Some w) few = ap (λ outcomes. Some (waits_with w.delta outcomes)) (outcomes_back w.outcomes few)
 
--- A state of these parts.
-abbrev state_with : Phase → Option Waiting → Option Event → Mode → Option Mode → ℕ → DecoderState
-state_with phase waiting last mode announced reported = record {
-  phase = phase;
-  waiting = waiting;
-  last = last;
-  mode = mode;
-  announced = announced;
-  reported = reported;
-}
-
 -- A state comes back, where its packet that waits has few outcomes.
 pub state_back : (s : DecoderState) → HasFewOutcomes s → state_in (numbers_of_state s) ≡ s
 state_back s few =
-    let waiting = waiting_back s.waiting few in
-    let last = event_if_any_back s.last in
-    let mode = mode_back s.mode in
-    let announced = announced_back s.announced in
-    let n = state_in (numbers_of_state s) in
-    ap (λ p. state_with p n.waiting n.last n.mode n.announced s.reported) (phase_back s.phase)
-    ∙ ap (λ w. state_with s.phase w n.last n.mode n.announced s.reported) waiting
-    ∙ ap (λ e. state_with s.phase s.waiting e n.mode n.announced s.reported) last
-    ∙ ap (λ m. state_with s.phase s.waiting s.last m n.announced s.reported) mode
-    ∙ ap (λ a. state_with s.phase s.waiting s.last s.mode a s.reported) announced
+    rw (
+      phase_back s.phase,
+      waiting_back s.waiting few,
+      event_if_any_back s.last,
+      announced_back s.announced,
+      mode_back s.mode,
+    ) refl
 
 -- The same numbers are those of one state.
 same_state : (numbers : DecoderNumbers) (one other : DecoderState) → IsOfState numbers one → IsOfState numbers other

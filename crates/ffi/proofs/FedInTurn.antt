@@ -7,7 +7,7 @@ use Rattle.decoder.specs.declared.state.DecoderState.{DecoderState}
 use Rattle.retire.specs.declared.event.Event.{Event}
 use Rattle.ffi.proofs.WrittenInTurn.{behind_front, front_more}
 use Rattle.ffi.specs.DecoderKept.{IsOfState}
-use Rattle.ffi.specs.Encoded.{last_end, text_between}
+use Rattle.ffi.specs.Encoded.{last_end, text_at, text_between}
 use Rattle.ffi.specs.Events.{numbers_of_event}
 use Rattle.ffi.specs.FedAll.{AreFed, EndsFeeds, IsNotTaken, Stops, TakesAll, TakesIfAny}
 use Rattle.ffi.specs.Images.{Judged}
@@ -38,21 +38,15 @@ module _ (image : Judged) (bytes : List ℕ) where
     ap (λ es. es ++ more) taken.5 ∙ append_assoc taken.1 taken.2 more,
   )
 
-  -- One text more ends where it ends.
-  last_end_more : (from : ℕ) (front : List ℕ) (end : ℕ) → last_end from (front ++ end ∷ []) ≡ end
-  last_end_more from [] end = refl
-  last_end_more from (first ∷ front) end = last_end_more first front end
-
-  -- The first payloads were taken, up to this place in the bytes, and the decoder has this state and its numbers.
-  pub record AreFedTo (ends : List ℕ) (before numbers : DecoderNumbers) (kept : DecoderState)
-      (place from count : ℕ) (old now : List EventNumbers) : Type 0 where
+  -- The first payloads were taken, and the decoder has this state and its numbers.
+  pub record AreFedTo (ends : List ℕ) (before numbers : DecoderNumbers) (kept : DecoderState) (place count : ℕ)
+      (old now : List EventNumbers) : Type 0 where
     pub fed : AreFed image bytes ends before numbers place count old now
-    pub at : from ≡ last_end 0 (take place ends)
     pub are : IsOfState numbers kept
 
   module _ (ends : List ℕ) (before : DecoderNumbers) (old : List EventNumbers) where
     -- None was taken.
-    pub fed_none : (kept : DecoderState) → IsOfState before kept → AreFedTo ends before before kept 0 0 0 old old
+    pub fed_none : (kept : DecoderState) → IsOfState before kept → AreFedTo ends before before kept 0 0 old old
     fed_none kept is = record {
       fed = record {
         events = [];
@@ -61,15 +55,13 @@ module _ (image : Judged) (bytes : List ℕ) where
         fit = omega arith;
         written = refl;
       };
-      at = refl;
       are = is;
     }
 
-    module _ (numbers after : DecoderNumbers) (kept next : DecoderState) (place from count : ℕ)
+    module _ (numbers after : DecoderNumbers) (kept next : DecoderState) (place count : ℕ)
         (now part tail whole : List EventNumbers) (payload : Option (List ℕ)) (lent : part ≡ drop count now)
         (back : whole ≡ take count now ++ tail) (within : place < length ends)
-        (is : payload ≡ text_between bytes from (slice_index_or ends place 0))
-        (so_far : AreFedTo ends before numbers kept place from count old now) where
+        (is : payload ≡ text_at bytes ends place) (so_far : AreFedTo ends before numbers kept place count old now) where
       abbrev end : ℕ
       end = slice_index_or ends place 0
 
@@ -84,7 +76,7 @@ module _ (image : Judged) (bytes : List ℕ) where
 
       -- One payload more was taken.
       pub fed_more : (more : ℕ) → IsNextFed image payload (Ok more) numbers after kept next part tail
-          → AreFedTo ends before after next (place + 1) (slice_index_or ends place 0) (count + more) old whole
+          → AreFedTo ends before after next (place + 1) (count + more) old whole
       fed_more more step =
           let events = step.0 in
           let counted = step.3 in
@@ -97,8 +89,7 @@ module _ (image : Judged) (bytes : List ℕ) where
               events = fed.events ++ events;
               taken_all = subst (λ front. TakesAll image bytes 0 front before after (fed.events ++ events))
                   (sym one) (takes_more 0 (take place ends) end before numbers after fed.events events fed.taken_all
-                  (subst (λ n. TakesIfAny image (text_between bytes n end) numbers after events) so_far.at
-                  (subst (λ p. TakesIfAny image p numbers after events) is step.1)));
+                  (subst (λ p. TakesIfAny image p numbers after events) is step.1));
               counted = ap (λ n. n + more) fed.counted
                   ∙ ap (λ n. length fed.events + n) counted
                   ∙ sym (length-append fed.events events);
@@ -111,7 +102,6 @@ module _ (image : Judged) (bytes : List ℕ) where
                   ∙ ap (λ ns. map numbers_of_event events ++ drop more ns) lent
                   ∙ ap (λ n. map numbers_of_event events ++ drop n (drop count now)) counted));
             };
-            at = sym (ap (last_end 0) one ∙ last_end_more 0 (take place ends) end);
             are = step.2;
           }
 
@@ -128,16 +118,16 @@ module _ (image : Judged) (bytes : List ℕ) where
             Stops payload (record {
               end = end;
               at = slice_get-get_or ends place 0 within;
-              is = is ∙ ap (λ n. text_between bytes n end) so_far.at;
+              is = is;
             }) (subst (λ n. IsNotTaken image payload n (length old - count) status) (sym same)
                 (subst (λ r. IsNotTaken image payload numbers r status) rest step.0)),
           )
 
     -- All were taken.
-    pub fed_all : (numbers : DecoderNumbers) (kept : DecoderState) (place from count : ℕ) (now : List EventNumbers)
-        → length ends ≤ place → AreFedTo ends before numbers kept place from count old now
+    pub fed_all : (numbers : DecoderNumbers) (kept : DecoderState) (place count : ℕ) (now : List EventNumbers)
+        → length ends ≤ place → AreFedTo ends before numbers kept place count old now
         → AreFed image bytes ends before numbers (length ends) count old now
-    fed_all numbers kept place from count now past so_far =
+    fed_all numbers kept place count now past so_far =
         let fed = so_far.fed in
         let whole = take_all place ends past in
         let every = take_all (length ends) ends (omega arith) in

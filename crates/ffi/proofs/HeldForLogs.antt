@@ -23,9 +23,8 @@ use Rattle.ffi.specs.Decoded.{stop_fault}
 use Rattle.ffi.specs.Encoded.{IsRefusedLog}
 use Rattle.ffi.specs.Images.{Judged}
 use Rattle.ffi.specs.declared.fault.Fault.{Fault}
-use Rattle.ffi.specs.declared.fault.Fault.TheVariants.{Memory, NoProgram, Log, Illegal, Range, Ends}
+use Rattle.ffi.specs.declared.fault.Fault.TheVariants as fault
 use Rattle.ffi.specs.declared.status.TheConstants.{MEMORY}
-use Rattle.ffi.specs.declared.texts.TextFault.TheVariants as text
 use Rattle.ffi.specs.declared.texts.Written.{Written}
 use Rattle.ffi.specs.steps.Comparing.{AreCompared, Writes}
 use Rattle.ffi.specs.steps.OfTexts.{AreTextsOf}
@@ -64,14 +63,23 @@ module _ (image : Judged) (harts : ℕ) (capture : List ℕ) (program : Image) (
 -- A log is refused.
 pub log_refused : (image : Judged) (harts : ℕ) (capture bytes ends : List ℕ) (program : Image) (place : ℕ) (why : Fault)
     → image ≡ Ok program → HasAsMany image harts capture ends → IsRefusedLog program bytes ends place why
-    → IsCompared image harts capture bytes ends (Err (place, text.Of why))
-log_refused image harts capture bytes ends program place Memory made many refused = inr (program, made, refused)
-log_refused image harts capture bytes ends program place (NoProgram why) made many refused = absurd refused.refused
-log_refused image harts capture bytes ends program place (Log why) made many refused = (many, (program, made, refused))
-log_refused image harts capture bytes ends program place (Illegal why) made many refused =
+    → IsCompared image harts capture bytes ends (Err (place, why))
+log_refused image harts capture bytes ends program place fault.Memory made many refused = inr (program, made, refused)
+log_refused image harts capture bytes ends program place (fault.NoProgram why) made many refused = absurd refused.refused
+log_refused image harts capture bytes ends program place (fault.Log why) made many refused =
     (many, (program, made, refused))
-log_refused image harts capture bytes ends program place Range made many refused = (many, (program, made, refused))
-log_refused image harts capture bytes ends program place Ends made many refused = (many, (program, made, refused))
+log_refused image harts capture bytes ends program place (fault.Illegal why) made many refused =
+    (many, (program, made, refused))
+log_refused image harts capture bytes ends program place fault.Range made many refused = absurd refused.refused
+log_refused image harts capture bytes ends program place fault.Ends made many refused =
+    (many, (program, made, refused))
+log_refused image harts capture bytes ends program place fault.Count made many refused = absurd refused.refused
+log_refused image harts capture bytes ends program place (fault.Symbols why) made many refused = absurd refused.refused
+log_refused image harts capture bytes ends program place (fault.Line n why) made many refused = absurd refused.refused
+log_refused image harts capture bytes ends program place (fault.NoEvent row) made many refused = absurd refused.refused
+log_refused image harts capture bytes ends program place fault.State made many refused = absurd refused.refused
+log_refused image harts capture bytes ends program place (fault.Payload why) made many refused = absurd refused.refused
+log_refused image harts capture bytes ends program place (fault.Decode why) made many refused = absurd refused.refused
 
 -- The report that is written is that of the comparison.
 pub comparison_found : (image : Judged) (harts : ℕ) (capture bytes ends : List ℕ) (program : Image) (gots : List Got)

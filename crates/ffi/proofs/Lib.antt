@@ -2,12 +2,10 @@ mod AlignedSpans
 mod BlocksPushed
 mod ComparedInTurn
 mod DecodersBack
-mod DecodersRead
 mod EventsBack
 mod EventsCopied
 mod EventsGiven
 mod EventsPassed
-mod EventsRead
 mod FedInTurn
 mod HartsInTurn
 mod HartsListed
@@ -26,7 +24,7 @@ mod PathWalk
 mod PiecesAdded
 mod PushedInTurn
 mod StatesBack
-mod StatesRead
+mod StatusesAscend
 mod StepsTaken
 mod TextsRead
 mod WorkedNumbers

@@ -8,7 +8,7 @@ use Rattle.legalpath.specs.ProgramLog.{ProgramLog}
 use Rattle.message.specs.Capture.{capture}
 use Rattle.message.specs.Numbered.{messages_from}
 use Rattle.payload.specs.declared.mode.Mode.{Mode}
-use Rattle.ffi.specs.steps.Encoding.{AddsLogs, IsEncodedLog}
+use Rattle.ffi.specs.steps.Encoding.{AddsLog, AddsLogs}
 
 -- The messages of one hart more come after those of the harts before.
 harts_more : (period : ℕ) (mode : Mode) (hart : ℕ) (logs : List ProgramLog) (log : ProgramLog)
@@ -27,14 +27,15 @@ harts_more period mode hart (first ∷ logs) log =
     ∙ ap (λ h. messages_of_harts period mode hart (first ∷ logs) ++ messages_from h 0 (payloads period mode log)) there
 
 -- The bytes of one hart more come after those of the harts before.
-pub added_more : (period : ℕ) (mode : Mode) (place : ℕ) (old new bytes : List ℕ) (logs : List ProgramLog)
-    (log : ProgramLog) → length logs ≡ place → AddsLogs period mode old new logs
-    → IsEncodedLog place period mode bytes log → AddsLogs period mode old (new ++ bytes) (logs ++ log ∷ [])
-added_more period mode place old new bytes logs log many before is =
+pub added_more : (period : ℕ) (mode : Mode) (place : ℕ) (old now new : List ℕ) (logs : List ProgramLog)
+    (log : ProgramLog) → length logs ≡ place → AddsLogs period mode old now logs → AddsLog place period mode now new log
+    → AddsLogs period mode old new (logs ++ log ∷ [])
+added_more period mode place old now new logs log many before is =
     let messages = messages_of_harts period mode 0 logs in
     let own = payloads period mode log in
     let at : place ≡ 0 + length logs = omega (arith, many) in
-    (λ i. before i ++ is i)
+    is
+    ∙ ap (λ l. l ++ capture (messages_from place 0 own)) before
     ∙ append_assoc old (capture messages) (capture (messages_from place 0 own))
     ∙ ap (λ h. old ++ (capture messages ++ capture (messages_from h 0 own))) at
     ∙ ap (λ l. old ++ l) (sym (joined messages (messages_from (0 + length logs) 0 own)))

@@ -1,10 +1,10 @@
 -- Events are pushed one after the other, and what comes of them is reported.
-use Rattle.std.proofs.Common.{◌≡◌, ◌⊎◌, inl, inr, ℕ, ◌+◌, ◌-◌, ◌<◌, ◌≤◌, List, ◌∷◌, [], ◌++◌, Some, drop, length, map}
-use Rattle.std.proofs.Common.{slice_index_or, take, refl, sym, ap, subst, ◌∙◌, arith, append_assoc, Ok}
+use Rattle.std.proofs.Common.{◌≡◌, ◌⊎◌, inl, inr, ℕ, ◌+◌, ◌-◌, ◌*◌, ◌<◌, ◌≤◌, List, ◌∷◌, [], ◌++◌, Some, drop, length}
+use Rattle.std.proofs.Common.{map, slice_index_or, take, refl, sym, ap, subst, ◌∙◌, arith, append_assoc, Ok}
 use Rattle.std.proofs.Math.Seq.{take-append-add, drop-append_seam, take-append_seam}
 use Rattle.std.proofs.lemmas.Bool.{cases_lt}
 use Rattle.std.proofs.lemmas.List.{append-nil, length-append, length-drop, map-append, take-append-drop, take-append-le}
-use Rattle.std.proofs.lemmas.List.{take_all, take_more, length-map, take-map, take-take}
+use Rattle.std.proofs.lemmas.List.{length-map, nil_from_length, take_all, take_more, take-map, take-take}
 use Rattle.std.proofs.lemmas.List.Elements.{All-append, All-nil}
 use Rattle.std.proofs.lemmas.Option.{slice_get-get_or, get_or_from_slice_get, slice_get_within}
 use Rattle.payload.specs.declared.mode.Mode.{Mode}
@@ -68,29 +68,7 @@ module _ (words : Words) where
         profile = All-append InProfile packets more before.profile then.profile;
       }
 
--- The first of no events.
-take_none : {X : Type 0} (n : ℕ) → take {A = X} n [] ≡ []
-take_none n = take_all n [] (omega arith)
-
--- No packets are those of no events.
-begin_none : (words : Words) (period : ℕ) (mode : Mode) (log nexts : List Event) (packets : List Packet) → nexts ≡ []
-    → BeginWith (packets_so_far words period mode log) (packets_so_far words period mode (log ++ nexts)) packets
-begin_none words period mode log nexts packets none = record {
-  more = [];
-  behind = packets;
-  grown = ap (λ es. packets_so_far words period mode (log ++ es)) none
-      ∙ ap (packets_so_far words period mode) (append-nil log)
-      ∙ sym (append-nil (packets_so_far words period mode log));
-  profile = All-nil InProfile;
-  whole = refl;
-}
-
 module _ (words : Words) where
-  -- Without an event there is no packet.
-  pub turn_none : (encoder : Encoder) → GivesInTurn words encoder [] []
-  turn_none encoder = λ period n mode log stands legal.
-      begin_none words period mode log (take n []) [] (take_none n)
-
   -- The packets of all events begin with those of the first ones, where none of the events before the last gives one.
   pub turn_run : (before after : Encoder) (events : List Event) (packets : List Packet)
       → GoesOn words before events after packets
@@ -123,7 +101,12 @@ module _ (words : Words) where
             whole = sym (append-nil packets);
           }
 
-  -- So it is of one event.
+  -- So it is of no event, which has no packet.
+  pub turn_none : (encoder : Encoder) → GivesInTurn words encoder [] []
+  turn_none encoder = turn_run encoder encoder [] [] (goes_none words encoder)
+      (λ period n mode log stands legal few. absurd (omega (arith, few)))
+
+  -- And of one event.
   pub turn_one : (before after : Encoder) (event : Event) (packets : List Packet)
       → GoesOn words before (event ∷ []) after packets → GivesInTurn words before (event ∷ []) packets
   turn_one before after event packets goes = turn_run before after (event ∷ []) packets goes
@@ -192,9 +175,8 @@ module _ (words : Words) (first : Encoder) (numbers : List EventNumbers) (old : 
     written = refl;
   }
 
-  module _ (place : ℕ) (one : EventNumbers) (event : Event) (middle after : Encoder) (count more status : ℕ)
-      (now part tail whole : List PacketNumbers) (lent : part ≡ drop count now) (back : whole ≡ take count now ++ tail)
-      (within : place < length numbers) (is : slice_index_or numbers place one ≡ numbers_of_event event)
+  module _ (place : ℕ) (middle after : Encoder) (count more : ℕ) (now part tail whole : List PacketNumbers)
+      (lent : part ≡ drop count now) (back : whole ≡ take count now ++ tail)
       (before : ArePushed words first numbers place middle count old now) where
     rest : length part ≡ length old - count
     rest =
@@ -202,28 +184,31 @@ module _ (words : Words) (first : Encoder) (numbers : List EventNumbers) (old : 
         ∙ ap length (behind_front numbers_of old before.packets count now (sym before.counted) before.written)
         ∙ length-drop count old
 
-    -- One event more was pushed.
-    pub pushed_more : status ≡ DONE → IsPushed words middle event status after more part tail
-        → ArePushed words first numbers (place + 1) after (count + more) old whole
-    pushed_more done (Pushed packets goes few counted fit written said) =
+    -- So many events more were pushed.
+    pub pushed_on : (size : ℕ) (events : List Event) (packets : List Packet) → 1 ≤ size
+        → take (place + size) numbers ≡ take place numbers ++ map numbers_of_event events
+        → GoesOn words middle events after packets → GivesInTurn words middle events packets
+        → more ≡ length packets → more ≤ 2 * size → more ≤ length part
+        → tail ≡ map numbers_of packets ++ drop more part
+        → ArePushed words first numbers (place + size) after (count + more) old whole
+    pushed_on size events packets some read goes turn counted few fit written =
         let left = rest in
         let fits = before.fit in
         let two = before.two in
         record {
-          events = before.events ++ event ∷ [];
+          events = before.events ++ events;
           packets = before.packets ++ packets;
-          read = take_more numbers place one within
-              ∙ ap (λ n. take place numbers ++ n ∷ []) is
-              ∙ ap (λ ns. ns ++ numbers_of_event event ∷ []) before.read
-              ∙ sym (map-append numbers_of_event before.events (event ∷ []));
-          goes = goes_more words first middle after before.events (event ∷ []) before.packets packets before.goes goes;
-          turn = turn_more words first middle after before.events (event ∷ []) before.packets packets before.goes
-              before.turn (turn_one words middle after event packets goes);
-          still = λ none. absurd (omega (arith, none));
+          read = read
+              ∙ ap (λ ns. ns ++ map numbers_of_event events) before.read
+              ∙ sym (map-append numbers_of_event before.events events);
+          goes = goes_more words first middle after before.events events before.packets packets before.goes goes;
+          turn = turn_more words first middle after before.events events before.packets packets before.goes before.turn
+              turn;
+          still = λ none. absurd (omega (arith, none, some));
           counted = ap (λ n. n + more) before.counted
               ∙ ap (λ n. length before.packets + n) counted
               ∙ sym (length-append before.packets packets);
-          two = omega (arith, few, counted, two);
+          two = omega (arith, few, two);
           fit = omega (arith, fit, left, fits);
           written = back
               ∙ subst (λ n. take count now ++ tail
@@ -233,23 +218,33 @@ module _ (words : Words) (first : Encoder) (numbers : List EventNumbers) (old : 
               ∙ ap (λ ns. map numbers_of packets ++ drop more ns) lent
               ∙ ap (λ n. map numbers_of packets ++ drop n (drop count now)) counted));
         }
-    pushed_more done (steps.NoRoom packets gives few small said same kept) = let no = sym said ∙ done in cc
 
-    -- The packets of the next event have no room.
-    pub no_room_at : ¬ (status ≡ DONE) → IsPushed words middle event status after more part tail
-        → ArePushed words first numbers place after count old whole
-        × EndsPushes words numbers place after count old status
-    no_room_at other (Pushed packets goes few counted fit written said) = absurd (other said)
-    no_room_at other (steps.NoRoom packets gives few small said same kept) =
-        let left = rest in
-        let fits = before.fit in
-        let stays : whole ≡ now =
-        back ∙ ap (λ ns. take count now ++ ns) (kept ∙ lent) ∙ take-append-drop count now in (
-          subst (λ ns. ArePushed words first numbers place after count old ns) (sym stays)
-              (subst (λ e. ArePushed words first numbers place e count old now) (sym same) before),
-          steps.NoRoom event (slice_get-get_or numbers place one within ∙ ap Some is) packets
-              (subst (λ e. Gives words e event packets) (sym same) gives) few (omega (arith, small, left, fits)) said,
-        )
+    module _ (one : EventNumbers) (event : Event) (status : ℕ) (within : place < length numbers)
+        (is : slice_index_or numbers place one ≡ numbers_of_event event) where
+      -- One event more was pushed.
+      pub pushed_more : status ≡ DONE → IsPushed words middle event status after more part tail
+          → ArePushed words first numbers (place + 1) after (count + more) old whole
+      pushed_more done (Pushed packets goes few counted fit written said) =
+          pushed_on 1 (event ∷ []) packets (omega arith)
+          (take_more numbers place one within ∙ ap (λ n. take place numbers ++ n ∷ []) is) goes
+          (turn_one words middle after event packets goes) counted (omega (arith, few, counted)) fit written
+      pushed_more done (steps.NoRoom packets gives few small said same kept) = let no = sym said ∙ done in cc
+
+      -- The packets of the next event have no room.
+      pub no_room_at : ¬ (status ≡ DONE) → IsPushed words middle event status after more part tail
+          → ArePushed words first numbers place after count old whole
+          × EndsPushes words numbers place after count old status
+      no_room_at other (Pushed packets goes few counted fit written said) = absurd (other said)
+      no_room_at other (steps.NoRoom packets gives few small said same kept) =
+          let left = rest in
+          let fits = before.fit in
+          let stays : whole ≡ now =
+          back ∙ ap (λ ns. take count now ++ ns) (kept ∙ lent) ∙ take-append-drop count now in (
+            subst (λ ns. ArePushed words first numbers place after count old ns) (sym stays)
+                (subst (λ e. ArePushed words first numbers place e count old now) (sym same) before),
+            steps.NoRoom event (slice_get-get_or numbers place one within ∙ ap Some is) packets
+                (subst (λ e. Gives words e event packets) (sym same) gives) few (omega (arith, small, left, fits)) said,
+          )
 
 -- Events come back from their numbers.
 events_back : (events : List Event) → map event_in (map numbers_of_event events) ≡ events
@@ -283,62 +278,16 @@ same_snoc xs ys x y same =
     ∙ drop-append_seam ys (y ∷ []) in
     (fronts, cc)
 
--- A list of length 0 has nothing.
-no_elements : {X : Type 0} → (xs : List X) → length xs ≡ 0 → xs ≡ []
-no_elements [] is = refl
-no_elements (x ∷ xs) is = absurd (omega (arith, is))
-
-module _ (image : Judged) (program : Image) (period : ℕ) (mode : Mode) (log nexts : List Event)
-    (state : EncoderNumbers) where
-  -- No event is next: the numbers stand for what they stood for.
-  no_nexts : AreNext image program period mode log nexts state [] → log ++ nexts ≡ log
-  no_nexts next = ap (λ es. log ++ es) (same_events [] nexts [] next.are refl) ∙ append-nil log
-
-  stands_none : AreNext image program period mode log nexts state []
-      → NumbersStand (words_of program) period mode (log ++ nexts) state
-  stands_none next = subst (λ l. NumbersStand (words_of program) period mode l state) (sym (no_nexts next)) next.stand
-
-  written_none : (old : List PacketNumbers) → AreNext image program period mode log nexts state []
-      → AreWritten (packets_so_far (words_of program) period mode log)
-      (packets_so_far (words_of program) period mode (log ++ nexts)) 0 old old
-  written_none old next = record {
-    more = [];
-    grown = ap (packets_so_far (words_of program) period mode) (no_nexts next)
-        ∙ sym (append-nil (packets_so_far (words_of program) period mode log));
-    profile = All-nil InProfile;
-    counted = refl;
-    written = refl;
-  }
-
--- Nothing is written for no event.
-first_none : (image : Judged) (program : Image) (period n : ℕ) (mode : Mode) (log nexts : List Event)
-    (state : EncoderNumbers) (numbers : List EventNumbers) (new : List PacketNumbers) → n ≤ 0
-    → AreNext image program period mode log nexts state (take n numbers)
-    → AreWrittenFirst (packets_so_far (words_of program) period mode log)
-    (packets_so_far (words_of program) period mode (log ++ nexts)) 0 new
-first_none image program period n mode log nexts state numbers new low next =
-    let none : n ≡ 0 = omega (arith, low) in
-    let empty : take n numbers ≡ [] = ap (λ k. take k numbers) none in
-    let same = ap (λ es. log ++ es) (same_events [] nexts [] (sym empty ∙ next.are) refl) ∙ append-nil log in
-    record {
-      more = [];
-      grown = ap (packets_so_far (words_of program) period mode) same
-          ∙ sym (append-nil (packets_so_far (words_of program) period mode log));
-      profile = All-nil InProfile;
-      within = omega arith;
-      written = refl;
-    }
-
--- Where none was taken, and the state and the buffer stay, this is reported.
+-- Where no event can be next, since no encoder has the state or the image makes no program, this is reported.
 pub none_reported : (image : Judged) (state : EncoderNumbers) (numbers : List EventNumbers) (status : ℕ)
     (old : List PacketNumbers) → EndsPushAll image state numbers 0 status → ¬ (status ≡ TOO_SMALL)
+    → ((program : Image) → image ≡ Ok program → ¬ AreOfEncoder state)
     → ReportsPushAll image numbers status state state 0 0 old old
-none_reported image state numbers status old ends other = record {
+none_reported image state numbers status old ends other never = record {
   ends = ends;
-  stands = λ program period mode log nexts next. stands_none image program period mode log nexts state next;
-  packets = λ program period mode log nexts next. written_none image program period mode log nexts state old next;
-  front = λ program period n mode log nexts few next.
-      first_none image program period n mode log nexts state numbers old few next;
+  stands = λ program period mode log nexts next. absurd (never program next.made (next.stand.state, next.stand.is));
+  packets = λ program period mode log nexts next. absurd (never program next.made (next.stand.state, next.stand.is));
+  front = λ program period n mode log nexts few next. absurd (never program next.made (next.stand.state, next.stand.is));
   no_room = λ program period mode log nexts next small are. absurd (other small);
   two = λ small. absurd (other small);
   fill = record { two = omega arith; fit = omega arith; behind = refl };
@@ -478,7 +427,7 @@ module _ (image : Judged) (made : Image) (makes : image ≡ Ok made) (state : En
   buffer_stays none =
       let two = pushed.two in
       let no : count ≡ 0 = omega (arith, two, none) in
-      let empty = no_elements pushed.packets (sym pushed.counted ∙ no) in
+      let empty = nil_from_length pushed.packets (sym pushed.counted ∙ no) in
       pushed.written ∙ ap (λ ps. map numbers_of ps ++ drop count old) empty ∙ ap (λ n. drop n old) no
 
   fill : FillRoom taken count old new

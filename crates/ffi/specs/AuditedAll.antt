@@ -93,11 +93,9 @@ fate_number (finding.InOrder skips) = FATE_IN_ORDER
 
 -- By how much a message is late, or how many numbers one in order skips; 0 for the others.
 abbrev pub found_by : Finding → ℕ
-found_by finding.Stranger = 0
-found_by finding.Changed = 0
-found_by finding.Repeat = 0
 found_by (finding.Late by) = by
 found_by (finding.InOrder skips) = skips
+found_by other = 0
 
 -- A message of RECEIVED at this offset, of which this is found.
 abbrev pub arrival_of : ℕ → Message → Finding → Arrival
@@ -224,11 +222,8 @@ fitting_status rows arrivals lost runs = if rows && arrivals && lost && runs the
 
 -- The number that is expected in place of a gap; 0 where there is none.
 abbrev pub expected_at : DemuxFault → ℕ
-expected_at demux.Stranger = 0
-expected_at demux.Repeat = 0
 expected_at (demux.Gap expected) = expected
-expected_at demux.AfterClose = 0
-expected_at (demux.Packet why) = 0
+expected_at other = 0
 
 -- The message of SENT that is refused, and the number that is expected in its place; 0 and 0 where none is named.
 abbrev pub sent_place : SentFault → SentPlace

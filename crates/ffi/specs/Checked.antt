@@ -11,7 +11,7 @@ use Rattle.rvclass.specs.Image.{Image}
 use Rattle.ffi.specs.Images.{Judged}
 use Rattle.ffi.specs.Statuses.{fault_row, fault_status}
 use Rattle.ffi.specs.declared.fault.Fault.{Fault}
-use Rattle.ffi.specs.declared.fault.Fault.TheVariants.{Memory, NoProgram, Log, Illegal, Range, Ends}
+use Rattle.ffi.specs.declared.fault.Fault.TheVariants.{Memory, NoProgram, Log, Illegal}
 use Rattle.ffi.specs.declared.status.TheConstants.{DONE}
 
 -- The text is a log of these events.
@@ -35,8 +35,7 @@ IsChecked image text (Err (Log why)) = (why ≡ log.Memory) ⊎ IsNoLog image te
 IsChecked image text (Err (Illegal why)) =
     (program : Image) × (events : List Event) × (image ≡ Ok program) × IsLogOf text events
     × IsFirstFault (words_of program) events why
-IsChecked image text (Err Range) = ⊥
-IsChecked image text (Err Ends) = ⊥
+IsChecked image text (Err other) = ⊥
 
 -- What is reported of it: the status, and the row that the fault names or how many events there are.
 abbrev pub IsReported : Result ℕ Fault → ℕ → ℕ → Type 0

@@ -14,14 +14,13 @@ use Rattle.ffi.specs.Encoded.{AreLogs, HasRefusedLog}
 use Rattle.ffi.specs.Handed.{IsHandedOut}
 use Rattle.ffi.specs.Images.{Judged}
 use Rattle.ffi.specs.Numbers.{flag}
-use Rattle.ffi.specs.Statuses.{fault_row}
-use Rattle.ffi.specs.Texts.{first_unclosed, text_status}
+use Rattle.ffi.specs.Statuses.{fault_row, fault_status}
+use Rattle.ffi.specs.Texts.{first_unclosed}
 use Rattle.ffi.specs.declared.encoding.LogPlace.{LogPlace}
-use Rattle.ffi.specs.declared.fault.Fault.TheVariants.{Memory, NoProgram}
+use Rattle.ffi.specs.declared.fault.Fault.{Fault}
+use Rattle.ffi.specs.declared.fault.Fault.TheVariants.{Count, Memory, NoProgram}
 use Rattle.ffi.specs.declared.status.TheConstants.{MEMORY}
 use Rattle.ffi.specs.declared.texts.TextEnd.{TextEnd}
-use Rattle.ffi.specs.declared.texts.TextFault.{TextFault}
-use Rattle.ffi.specs.declared.texts.TextFault.TheVariants as text
 use Rattle.ffi.specs.declared.texts.Written.{Written}
 
 -- Which harts are closed, by what is decoded of them.
@@ -81,33 +80,26 @@ pub record HasAsMany (image : Judged) (harts : ℕ) (capture ends : List ℕ) : 
 -- The result for a capture and the texts of logs: a comparison; or why there is none, and for which log. The image makes
 -- no program; or there are more or fewer logs than harts; or a text is no legal log's; or an allocation failed, for a text
 -- or for something else.
-abbrev pub IsCompared : Judged → ℕ → List ℕ → List ℕ → List ℕ → Result Written (ℕ × TextFault) → Type 0
+abbrev pub IsCompared : Judged → ℕ → List ℕ → List ℕ → List ℕ → Result Written (ℕ × Fault) → Type 0
 IsCompared image harts capture bytes ends (Ok found) =
     HasComparison image harts capture bytes ends found.text.items found.end
-IsCompared image harts capture bytes ends (Err (place, text.Of Memory)) =
+IsCompared image harts capture bytes ends (Err (place, Memory)) =
     (place ≡ 0) ⊎ HasRefusedLog image bytes ends place Memory
-IsCompared image harts capture bytes ends (Err (place, text.Of (NoProgram why))) = (place ≡ 0) × (image ≡ Err why)
-IsCompared image harts capture bytes ends (Err (place, text.Of why)) =
-    HasAsMany image harts capture ends × HasRefusedLog image bytes ends place why
-IsCompared image harts capture bytes ends (Err (place, text.Count)) =
+IsCompared image harts capture bytes ends (Err (place, NoProgram why)) = (place ≡ 0) × (image ≡ Err why)
+IsCompared image harts capture bytes ends (Err (place, Count)) =
     (place ≡ 0) × HasOtherCount image harts capture ends
-IsCompared image harts capture bytes ends (Err (place, text.Symbols why)) = ⊥
-
--- The row that a fault names, counted from 1; 0 where it names none.
-abbrev pub text_row : TextFault → ℕ
-text_row (text.Of why) = fault_row why
-text_row (text.Symbols why) = 0
-text_row text.Count = 0
+IsCompared image harts capture bytes ends (Err (place, why)) =
+    HasAsMany image harts capture ends × HasRefusedLog image bytes ends place why
 
 -- A comparison was handed out, and it was reported how it ends; or the status says why there is none, and of which log
 -- and row.
-pub data ReportsCompared (compared : Result Written (ℕ × TextFault)) (status wanted_before wanted : ℕ)
+pub data ReportsCompared (compared : Result Written (ℕ × Fault)) (status wanted_before wanted : ℕ)
     (ended_before ended : TextEnd) (place_before place : LogPlace) (old new : List ℕ) : Type 0 where
   Handed : (found : Written) → compared ≡ Ok found → IsHandedOut found.text.items status wanted old new
       → ended ≡ found.end → place ≡ place_before
       → ReportsCompared compared status wanted_before wanted ended_before ended place_before place old new
-  Refused : (log : ℕ) (fault : TextFault) → compared ≡ Err (log, fault) → status ≡ text_status fault
-      → place ≡ record { log = log; row = text_row fault } → wanted ≡ wanted_before → ended ≡ ended_before
+  Refused : (log : ℕ) (fault : Fault) → compared ≡ Err (log, fault) → status ≡ fault_status fault
+      → place ≡ record { log = log; row = fault_row fault } → wanted ≡ wanted_before → ended ≡ ended_before
       → new ≡ old
       → ReportsCompared compared status wanted_before wanted ended_before ended place_before place old new
 
@@ -115,5 +107,5 @@ pub data ReportsCompared (compared : Result Written (ℕ × TextFault)) (status 
 abbrev pub ReportsCompare : Judged → ℕ → List ℕ → List ℕ → List ℕ → ℕ → ℕ → ℕ → TextEnd → TextEnd → LogPlace → LogPlace
     → List ℕ → List ℕ → Type 0
 ReportsCompare image harts capture bytes ends status wanted_before wanted ended_before ended place_before place old new =
-    (compared : Result Written (ℕ × TextFault)) × IsCompared image harts capture bytes ends compared
+    (compared : Result Written (ℕ × Fault)) × IsCompared image harts capture bytes ends compared
     × ReportsCompared compared status wanted_before wanted ended_before ended place_before place old new

@@ -1,6 +1,6 @@
 -- What a call reports of a capture of logs, or of what logs cost.
 use Rattle.std.specs.Prelude.{ℕ, ◌≡◌, ◌⊎◌, ◌-◌, ◌<◌, ◌≤◌, ◌++◌, ◌==◌, ◌&&◌, nat_le, if◌then◌else◌, List, [], ◌∷◌, drop}
-use Rattle.std.specs.Prelude.{Option, Some, None, Result, Ok, Err, length, take}
+use Rattle.std.specs.Prelude.{Option, Some, None, Result, Ok, Err, length, slice_index_or, take}
 use Rattle.std.specs.declared.alloc.Global.{Global}
 use Rattle.std.specs.declared.vec.Vec.{Vec}
 use Rattle.captures.specs.Table.{measures_table}
@@ -49,14 +49,10 @@ IsLegalText program (Some text) log = IsLogOf text log.events × (log.program �
 abbrev pub IsNoLegalText : Image → Option (List ℕ) → Fault → Type 0
 IsNoLegalText program text Memory = Unit {0}
 IsNoLegalText program None Ends = Unit {0}
-IsNoLegalText program (Some text) Ends = ⊥
-IsNoLegalText program None (Log why) = ⊥
 IsNoLegalText program (Some text) (Log why) = (why ≡ log.Memory) ⊎ (log_of_records (records_of text) ≡ Err why)
-IsNoLegalText program None (Illegal why) = ⊥
 IsNoLegalText program (Some text) (Illegal why) =
     (events : List Event) × IsLogOf text events × IsFirstFault (words_of program) events why
-IsNoLegalText program text (NoProgram why) = ⊥
-IsNoLegalText program text Range = ⊥
+IsNoLegalText program text other = ⊥
 
 -- The texts, of which the first begins here and each further one where the one before ends, are those of these legal
 -- logs.
@@ -71,6 +67,10 @@ AreLogs program bytes from (end ∷ ends) (log ∷ logs) =
 abbrev pub last_end : ℕ → List ℕ → ℕ
 last_end from [] = from
 last_end from (end ∷ ends) = last_end end ends
+
+-- The text with this number, counted from 0: it begins where the one before ends.
+abbrev pub text_at : List ℕ → List ℕ → ℕ → Option (List ℕ)
+text_at bytes ends place = text_between bytes (last_end 0 (take place ends)) (slice_index_or ends place 0)
 
 -- The first of the texts that is no legal log's has this number, and this is why.
 pub record IsRefusedLog (program : Image) (bytes ends : List ℕ) (place : ℕ) (fault : Fault) : Type 0 where
@@ -102,10 +102,7 @@ HasRefusedLog image bytes ends place fault =
 abbrev pub IsNoCapture : Judged → List ℕ → List ℕ → ℕ → Fault → Type 0
 IsNoCapture image bytes ends place Memory = (place ≡ 0) ⊎ HasRefusedLog image bytes ends place Memory
 IsNoCapture image bytes ends place (NoProgram why) = (place ≡ 0) × (image ≡ Err why)
-IsNoCapture image bytes ends place (Log why) = HasRefusedLog image bytes ends place (Log why)
-IsNoCapture image bytes ends place (Illegal why) = HasRefusedLog image bytes ends place (Illegal why)
-IsNoCapture image bytes ends place Ends = HasRefusedLog image bytes ends place Ends
-IsNoCapture image bytes ends place Range = ⊥
+IsNoCapture image bytes ends place why = HasRefusedLog image bytes ends place why
 
 -- The numbers name this mode and this version, the period is 1 or more, and there is a log at least, and at most as
 -- many as the version has harts.

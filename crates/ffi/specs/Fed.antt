@@ -20,13 +20,13 @@ use Rattle.ffi.specs.DecoderKept.{AreClosed, AreOfDecoder, HaveMode, NumbersStan
 use Rattle.ffi.specs.Events.{numbers_of_event}
 use Rattle.ffi.specs.Handed.{IsHandedOut}
 use Rattle.ffi.specs.Images.{Judged}
-use Rattle.ffi.specs.Statuses.{decode_status, image_status, pack_status}
+use Rattle.ffi.specs.Statuses.{fault_status}
 use Rattle.ffi.specs.declared.decoder_state.DecoderNumbers.{DecoderNumbers}
 use Rattle.ffi.specs.declared.events.EventNumbers.{EventNumbers}
+use Rattle.ffi.specs.declared.fault.Fault.{Fault}
+use Rattle.ffi.specs.declared.fault.Fault.TheVariants.{Decode, NoProgram, Payload, State}
 use Rattle.ffi.specs.declared.feeding.FedPayload.{FedPayload}
-use Rattle.ffi.specs.declared.feeding.FeedFault.{FeedFault}
-use Rattle.ffi.specs.declared.feeding.FeedFault.TheVariants.{State, Payload, Image as NoImage, Decode}
-use Rattle.ffi.specs.declared.status.TheConstants.{BAD_STATE, DONE}
+use Rattle.ffi.specs.declared.status.TheConstants.{DONE}
 
 -- If the numbers before stand for packets and a log, those after stand for one packet more, and for the log with these
 -- events added.
@@ -107,19 +107,13 @@ pub record RefusesPayload (image : Judged) (payload : List ℕ) (numbers : Decod
 -- The result of feeding a payload to a decoder with these numbers: it took the payload; or no decoder has these
 -- numbers, the payload is that of no packet, the image makes no program, or the decoder refused
 -- the packet.
-abbrev pub IsFed : Judged → List ℕ → DecoderNumbers → Result FedPayload FeedFault → Type 0
+abbrev pub IsFed : Judged → List ℕ → DecoderNumbers → Result FedPayload Fault → Type 0
 IsFed image payload numbers (Ok fed) = TakesPayload image payload numbers fed.numbers fed.events.items
 IsFed image payload numbers (Err State) = ¬ AreOfDecoder numbers
 IsFed image payload numbers (Err (Payload why)) = reading payload ≡ Err why
-IsFed image payload numbers (Err (NoImage why)) = image ≡ Err why
+IsFed image payload numbers (Err (NoProgram why)) = image ≡ Err why
 IsFed image payload numbers (Err (Decode why)) = RefusesPayload image payload numbers why
-
--- Why a payload is not taken, as a status.
-abbrev pub feed_status : FeedFault → ℕ
-feed_status State = BAD_STATE
-feed_status (Payload why) = pack_status why
-feed_status (NoImage why) = image_status why
-feed_status (Decode why) = decode_status why
+IsFed image payload numbers (Err other) = ⊥
 
 -- The decoder goes on where all is done, and else its numbers stay.
 abbrev pub GoesOnIfDone : ℕ → DecoderNumbers → DecoderNumbers → DecoderNumbers → Type 0
@@ -132,6 +126,6 @@ pub data ReportsFeed (image : Judged) (payload : List ℕ) (status : ℕ) (befor
   Taken : (next : DecoderNumbers) (events : List Event) → TakesPayload image payload before next events
       → IsHandedOut (map numbers_of_event events) status count old new → GoesOnIfDone status before next after
       → ReportsFeed image payload status before after count_before count old new
-  Refused : (fault : FeedFault) → IsFed image payload before (Err fault) → status ≡ feed_status fault
+  Refused : (fault : Fault) → IsFed image payload before (Err fault) → status ≡ fault_status fault
       → after ≡ before → count ≡ count_before → new ≡ old
       → ReportsFeed image payload status before after count_before count old new

@@ -13,7 +13,6 @@ use Rattle.rvclass.specs.Image.{Image}
 use Rattle.symbols.specs.Refused.{file_or_fault}
 use Rattle.symbols.specs.declared.fault.SymbolsFault.{SymbolsFault}
 use Rattle.symbols.specs.declared.fault.SymbolsFault.TheVariants as reading
-use Rattle.message.specs.declared.range.HartRange.{HartRange}
 use Rattle.message.specs.declared.fault.MessageFault.{MessageFault}
 use Rattle.message.specs.declared.header.Header.{Header}
 use Rattle.message.specs.declared.message.Message.{Message}
@@ -31,11 +30,10 @@ use Rattle.ffi.specs.Decoded.{stop_fault, stop_place}
 use Rattle.ffi.specs.Images.{Judged}
 use Rattle.ffi.specs.Numbers.{flag}
 use Rattle.ffi.specs.Texts.{ReportsText, first_unclosed}
-use Rattle.ffi.specs.declared.fault.Fault.TheVariants.{Memory, NoProgram, Range}
+use Rattle.ffi.specs.declared.fault.Fault.{Fault}
+use Rattle.ffi.specs.declared.fault.Fault.TheVariants.{Memory, NoProgram, Range, Symbols}
 use Rattle.ffi.specs.declared.listing_capture.TheConstants.{CSV, TEXT}
 use Rattle.ffi.specs.declared.texts.TextEnd.{TextEnd}
-use Rattle.ffi.specs.declared.texts.TextFault.{TextFault}
-use Rattle.ffi.specs.declared.texts.TextFault.TheVariants as text
 use Rattle.ffi.specs.declared.texts.Written.{Written}
 use Rattle.ffi.specs.Salvaged.{harts_asked, salvage_end}
 
@@ -75,29 +73,29 @@ pub record HasListing (harts : ℕ) (capture : List ℕ) (format : Form) (progra
 -- such a text by the program of the image and the symbols that are read; or the image makes no program, or else the
 -- symbols are not read; or an allocation failed.
 abbrev pub IsTextBy : Judged → List ℕ → (Image → Option (List ℕ) → List ℕ → TextEnd → Type 0)
-    → Result Written TextFault → Type 0
+    → Result Written Fault → Type 0
 IsTextBy image symbols IsText (Ok found) =
     (program : Image) × (file : Option (List ℕ)) × (image ≡ Ok program) × (symbols_in symbols ≡ Ok file)
     × IsText program file found.text.items found.end
-IsTextBy image symbols IsText (Err (text.Of Memory)) = Unit {0}
-IsTextBy image symbols IsText (Err (text.Of (NoProgram why))) = image ≡ Err why
-IsTextBy image symbols IsText (Err (text.Symbols reading.Memory)) = Unit {0}
-IsTextBy image symbols IsText (Err (text.Symbols why)) =
+IsTextBy image symbols IsText (Err Memory) = Unit {0}
+IsTextBy image symbols IsText (Err (NoProgram why)) = image ≡ Err why
+IsTextBy image symbols IsText (Err (Symbols reading.Memory)) = Unit {0}
+IsTextBy image symbols IsText (Err (Symbols why)) =
     (program : Image) × (image ≡ Ok program) × (symbols_in symbols ≡ Err why)
 IsTextBy image symbols IsText (Err other) = ⊥
 
 -- The same, where the format is a number: it comes first, and names none, or the format.
 pub data IsTextIn (image : Judged) (symbols : List ℕ) (format : ℕ)
-    (IsText : Form → Image → Option (List ℕ) → List ℕ → TextEnd → Type 0) (written : Result Written TextFault)
+    (IsText : Form → Image → Option (List ℕ) → List ℕ → TextEnd → Type 0) (written : Result Written Fault)
     : Type 0 where
-  NoFormat : format_of format ≡ None → written ≡ Err (text.Of Range) → IsTextIn image symbols format IsText written
+  NoFormat : format_of format ≡ None → written ≡ Err Range → IsTextIn image symbols format IsText written
   InFormat : (named : Form) → format_of format ≡ Some named → IsTextBy image symbols (IsText named) written
       → IsTextIn image symbols format IsText written
 
 -- The listing of a capture was written, and the result was reported.
 abbrev pub ReportsList : Judged → ℕ → List ℕ → List ℕ → ℕ → ℕ → ℕ → ℕ → TextEnd → TextEnd → List ℕ → List ℕ → Type 0
 ReportsList image harts capture symbols format status wanted_before wanted ended_before ended old new =
-    (written : Result Written TextFault) × IsTextIn image symbols format (HasListing harts capture) written
+    (written : Result Written Fault) × IsTextIn image symbols format (HasListing harts capture) written
     × ReportsText written status wanted_before wanted ended_before ended old new
 
 -- The messages of the frames of a capture.
@@ -129,5 +127,5 @@ pub record HasTreated (asked : Option ℕ) (capture : List ℕ) (format : Form) 
 abbrev pub ReportsTreated : Judged → ℕ → List ℕ → List ℕ → ℕ → ℕ → ℕ → ℕ → TextEnd → TextEnd → List ℕ → List ℕ
     → Type 0
 ReportsTreated image harts capture symbols format status wanted_before wanted ended_before ended old new =
-    (written : Result Written TextFault) × IsTextIn image symbols format (HasTreated (harts_asked harts) capture) written
+    (written : Result Written Fault) × IsTextIn image symbols format (HasTreated (harts_asked harts) capture) written
     × ReportsText written status wanted_before wanted ended_before ended old new

@@ -3,7 +3,6 @@ use Rattle.std.specs.Prelude.{ℕ, ◌≡◌, ◌==◌, ◌&&◌, nat_le, not, i
 use Rattle.std.specs.declared.alloc.Global.{Global}
 use Rattle.std.specs.declared.vec.Vec.{Vec}
 use Rattle.captures.specs.Capture.{capture_of_text}
-use Rattle.captures.specs.declared.line_fault.LineFault.{LineFault}
 use Rattle.captures.specs.declared.line_fault.LinesFault.TheVariants as fault
 use Rattle.captures.specs.declared.line_settings.Settings.{Settings}
 use Rattle.message.specs.Version.{most_harts}
@@ -11,10 +10,9 @@ use Rattle.message.specs.declared.header.Version.{Version}
 use Rattle.payload.specs.declared.mode.Mode.{Mode}
 use Rattle.ffi.specs.Encoded.{mode_of, version_of}
 use Rattle.ffi.specs.Handed.{IsHandedOut}
-use Rattle.ffi.specs.Statuses.{line_status}
-use Rattle.ffi.specs.declared.lines.LinesRefusal.{LinesRefusal}
-use Rattle.ffi.specs.declared.lines.LinesRefusal.TheVariants.{Range, Line, Memory}
-use Rattle.ffi.specs.declared.status.TheConstants.{MEMORY, OUT_OF_RANGE}
+use Rattle.ffi.specs.Statuses.{fault_row, fault_status}
+use Rattle.ffi.specs.declared.fault.Fault.{Fault}
+use Rattle.ffi.specs.declared.fault.Fault.TheVariants.{Range, Line, Memory}
 
 -- The count of harts, or of numbers, that is asked for: none with 0.
 abbrev pub count_asked : ℕ → Option ℕ
@@ -43,7 +41,7 @@ settings_named version mode period harts numbers =
 
 -- The result for lines: their capture; or a number is out of its range, a line has a fault, of which it is the first, or
 -- an allocation failed for the capture.
-abbrev pub IsOfLines : Option Settings → List ℕ → Result (Vec ℕ Global) LinesRefusal → Type 0
+abbrev pub IsOfLines : Option Settings → List ℕ → Result (Vec ℕ Global) Fault → Type 0
 IsOfLines settings text (Ok capture) =
     (own : Settings) × (settings ≡ Some own) × (capture_of_text own text ≡ Ok capture.items)
 IsOfLines settings text (Err Range) = settings ≡ None
@@ -52,18 +50,7 @@ IsOfLines settings text (Err (Line number why)) =
 IsOfLines settings text (Err Memory) =
     (own : Settings) × (settings ≡ Some own)
     × ((capture : List ℕ) × (capture_of_text own text ≡ Ok capture))
-
--- Why there is no capture of lines, as a status.
-abbrev pub lines_status : LinesRefusal → ℕ
-lines_status Range = OUT_OF_RANGE
-lines_status (Line number why) = line_status why
-lines_status Memory = MEMORY
-
--- The line at fault, counted from 1; 0 where none is.
-abbrev pub line_at_fault : LinesRefusal → ℕ
-line_at_fault Range = 0
-line_at_fault (Line number why) = number
-line_at_fault Memory = 0
+IsOfLines settings text (Err other) = ⊥
 
 -- The capture of lines was handed out, and no line was reported; or there is none, and the status and the line say why.
 pub data ReportsOfLines (settings : Option Settings) (text : List ℕ) (status line wanted_before wanted : ℕ)
@@ -71,6 +58,6 @@ pub data ReportsOfLines (settings : Option Settings) (text : List ℕ) (status l
   Made : (capture : Vec ℕ Global) → IsOfLines settings text (Ok capture)
       → IsHandedOut capture.items status wanted old new → line ≡ 0
       → ReportsOfLines settings text status line wanted_before wanted old new
-  Refused : (why : LinesRefusal) → IsOfLines settings text (Err why) → status ≡ lines_status why
-      → line ≡ line_at_fault why → wanted ≡ wanted_before → new ≡ old
+  Refused : (why : Fault) → IsOfLines settings text (Err why) → status ≡ fault_status why
+      → line ≡ fault_row why → wanted ≡ wanted_before → new ≡ old
       → ReportsOfLines settings text status line wanted_before wanted old new

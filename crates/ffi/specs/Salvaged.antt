@@ -23,12 +23,11 @@ use Rattle.ffi.specs.Images.{Judged}
 use Rattle.ffi.specs.Numbers.{flag}
 use Rattle.ffi.specs.Statuses.{header_fault}
 use Rattle.ffi.specs.Texts.{ReportsText}
+use Rattle.ffi.specs.declared.fault.Fault.{Fault}
 use Rattle.ffi.specs.declared.fault.Fault.TheVariants.{Memory, NoProgram, Range}
 use Rattle.ffi.specs.declared.listing_capture.TheConstants.{CSV, TEXT}
 use Rattle.ffi.specs.declared.salvaged.TheConstants.{HARTS_SHOWN, SUMMARY}
 use Rattle.ffi.specs.declared.texts.TextEnd.{TextEnd}
-use Rattle.ffi.specs.declared.texts.TextFault.{TextFault}
-use Rattle.ffi.specs.declared.texts.TextFault.TheVariants as text
 use Rattle.ffi.specs.declared.texts.Written.{Written}
 
 -- The count of harts that a number asks for; one number asks for none.
@@ -74,16 +73,16 @@ pub record HasSalvaged (layout : Layout) (image : Judged) (asked : Option ℕ) (
 
 -- The result for a capture, in a layout that is named: what is salvaged of it; or the image makes no program; or an
 -- allocation failed.
-abbrev pub IsSalvagedAs : Layout → Judged → Option ℕ → List ℕ → Result Written TextFault → Type 0
+abbrev pub IsSalvagedAs : Layout → Judged → Option ℕ → List ℕ → Result Written Fault → Type 0
 IsSalvagedAs layout image asked capture (Ok found) = HasSalvaged layout image asked capture found.text.items found.end
-IsSalvagedAs layout image asked capture (Err (text.Of Memory)) = Unit {0}
-IsSalvagedAs layout image asked capture (Err (text.Of (NoProgram why))) = image ≡ Err why
+IsSalvagedAs layout image asked capture (Err Memory) = Unit {0}
+IsSalvagedAs layout image asked capture (Err (NoProgram why)) = image ≡ Err why
 IsSalvagedAs layout image asked capture (Err other) = ⊥
 
 -- The same, where the layout is a number: it comes first, and names none, or the layout.
-pub data IsSalvagedIn (image : Judged) (harts : ℕ) (capture : List ℕ) (format : ℕ) (written : Result Written TextFault)
+pub data IsSalvagedIn (image : Judged) (harts : ℕ) (capture : List ℕ) (format : ℕ) (written : Result Written Fault)
     : Type 0 where
-  NoLayout : layout_of format ≡ None → written ≡ Err (text.Of Range)
+  NoLayout : layout_of format ≡ None → written ≡ Err Range
       → IsSalvagedIn image harts capture format written
   InLayout : (named : Layout) → layout_of format ≡ Some named
       → IsSalvagedAs named image (harts_asked harts) capture written
@@ -92,5 +91,5 @@ pub data IsSalvagedIn (image : Judged) (harts : ℕ) (capture : List ℕ) (forma
 -- What is salvaged of a capture was written, and the result was reported.
 abbrev pub ReportsSalvage : Judged → ℕ → List ℕ → ℕ → ℕ → ℕ → ℕ → TextEnd → TextEnd → List ℕ → List ℕ → Type 0
 ReportsSalvage image harts capture format status wanted_before wanted ended_before ended old new =
-    (written : Result Written TextFault) × IsSalvagedIn image harts capture format written
+    (written : Result Written Fault) × IsSalvagedIn image harts capture format written
     × ReportsText written status wanted_before wanted ended_before ended old new

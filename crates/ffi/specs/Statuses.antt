@@ -45,7 +45,8 @@ use Rattle.ffi.specs.declared.status.TheConstants.{WRONG_BRANCHES, WRONG_PLACE, 
 use Rattle.ffi.specs.declared.status.TheConstants.{AFTER_CLOSING_PACKET}
 use Rattle.ffi.specs.declared.status.TheConstants.{LINE_FIELDS, LINE_HART_ONE, LINE_HART_TWO, LINE_NUMBER}
 use Rattle.ffi.specs.declared.status.TheConstants.{LINE_BYTES, LINE_ABOVE}
-use Rattle.ffi.specs.declared.status.TheConstants.{NO_SYMBOL, SYMBOLS_TOO_LARGE}
+use Rattle.ffi.specs.declared.status.TheConstants.{NO_SYMBOL, SYMBOLS_TOO_LARGE, UNEQUAL_COUNTS}
+use Rattle.ffi.specs.declared.status.TheConstants.{BAD_STATE, NO_EVENT}
 
 -- Why a message or a header is not read or not written.
 abbrev pub message_status : MessageFault → ℕ
@@ -136,7 +137,6 @@ log_status log.Memory = MEMORY
 
 -- The row of a text that a fault names, counted from 1; 0 where it names none.
 abbrev pub log_row : LogFault → ℕ
-log_row log.Header = 0
 log_row (log.Fields row) = row
 log_row (log.Number row) = row
 log_row (log.Odd row) = row
@@ -145,10 +145,7 @@ log_row (log.Privilege row) = row
 log_row (log.Cause row) = row
 log_row (log.TrapFields row) = row
 log_row (log.InterruptValue row) = row
-log_row log.TooLong = 0
-log_row (log.LongerThan most) = 0
-log_row log.Read = 0
-log_row log.Memory = 0
+log_row other = 0
 
 -- Why a row is illegal.
 abbrev pub why_status : Why → ℕ
@@ -158,24 +155,6 @@ why_status path.WrongType = WRONG_TYPE
 why_status path.WrongNext = WRONG_NEXT
 why_status path.WrongPrivilege = WRONG_PRIVILEGE
 why_status path.WrongEpc = WRONG_EPC
-
--- Why a call gives no answer.
-abbrev pub fault_status : Fault → ℕ
-fault_status fault.Memory = MEMORY
-fault_status (fault.NoProgram why) = image_status why
-fault_status (fault.Log why) = log_status why
-fault_status (fault.Illegal why) = why_status why.why
-fault_status fault.Range = OUT_OF_RANGE
-fault_status fault.Ends = BAD_ENDS
-
--- The row that a fault names, counted from 1; 0 where it names none.
-abbrev pub fault_row : Fault → ℕ
-fault_row fault.Memory = 0
-fault_row (fault.NoProgram why) = 0
-fault_row (fault.Log why) = log_row why
-fault_row (fault.Illegal why) = why.row
-fault_row fault.Range = 0
-fault_row fault.Ends = 0
 
 -- A line's hart is not below the most harts of a version.
 abbrev pub line_hart_status : Version → ℕ
@@ -195,3 +174,27 @@ abbrev pub symbols_status : SymbolsFault → ℕ
 symbols_status symbols.TooLarge = SYMBOLS_TOO_LARGE
 symbols_status symbols.NoSymbol = NO_SYMBOL
 symbols_status symbols.Memory = MEMORY
+
+-- Why a call gives no answer.
+abbrev pub fault_status : Fault → ℕ
+fault_status fault.Memory = MEMORY
+fault_status (fault.NoProgram why) = image_status why
+fault_status (fault.Log why) = log_status why
+fault_status (fault.Illegal why) = why_status why.why
+fault_status fault.Range = OUT_OF_RANGE
+fault_status fault.Ends = BAD_ENDS
+fault_status fault.Count = UNEQUAL_COUNTS
+fault_status (fault.Symbols why) = symbols_status why
+fault_status (fault.Line number why) = line_status why
+fault_status (fault.NoEvent row) = NO_EVENT
+fault_status fault.State = BAD_STATE
+fault_status (fault.Payload why) = pack_status why
+fault_status (fault.Decode why) = decode_status why
+
+-- The row or line that a fault names, counted from 1; 0 where it names none.
+abbrev pub fault_row : Fault → ℕ
+fault_row (fault.Log why) = log_row why
+fault_row (fault.Illegal why) = why.row
+fault_row (fault.Line number why) = number
+fault_row (fault.NoEvent row) = row
+fault_row other = 0

@@ -125,28 +125,17 @@ fn add_run(span: &Span, runs: &mut Vec<ByteRun>) -> Result<(), AllocError>
 fn matched_at(offset: u64, hart: u16, found: Matched) -> Arrival
     ensures { result ≡ matched_at offset hart found }
 {
-    match found {
-        Matched::Stranger => Arrival {
-            number: 0,
-            by: 0,
-            offset,
-            fate: FATE_STRANGER,
-            hart,
-        },
-        Matched::Extra => Arrival {
-            number: 0,
-            by: 0,
-            offset,
-            fate: FATE_EXTRA,
-            hart,
-        },
-        Matched::Matched { number, skips } => Arrival {
-            number,
-            by: skips,
-            offset,
-            fate: FATE_IN_ORDER,
-            hart,
-        },
+    let (number, by, fate) = match found {
+        Matched::Stranger => (0, 0, FATE_STRANGER),
+        Matched::Extra => (0, 0, FATE_EXTRA),
+        Matched::Matched { number, skips } => (number, skips, FATE_IN_ORDER),
+    };
+    Arrival {
+        number,
+        by,
+        offset,
+        fate,
+        hart,
     }
 }
 

@@ -1,29 +1,20 @@
 //! Logs and events that are checked.
 
-ghost use Rattle.std.specs.Prelude.{◌≡◌, ◌≤◌, length};
+ghost use Rattle.std.specs.Prelude.{◌≤◌, length};
 ghost use Rattle.retire.specs.Log.{most_rows};
 ghost use Rattle.rvclass.specs.Fetch.{words_of};
-ghost use Rattle.ffi.specs.Checked.{ReportsCheck, IsChecked};
-ghost use Rattle.ffi.specs.EventsChecked.{AreChecked, EndsCheckEvents, events_row, events_status};
+ghost use Rattle.ffi.specs.Checked.{IsChecked, IsReported, ReportsCheck};
+ghost use Rattle.ffi.specs.EventsChecked.{AreChecked, AreLegal, EndsCheckEvents};
 ghost use Rattle.ffi.specs.Images.{OfPieces};
 
 use crate::events::{EventNumbers, event_of};
-use crate::fault::{Fault, why_status};
+use crate::fault::Fault;
 use crate::images::{ImagePiece, Judged, judge_pieces};
-use crate::status::{DONE, NO_EVENT, TOO_MANY_ROWS};
-use legalpath::{PathCheck, PathFault, check};
-use retire::{MOST_ROWS, read_log_from_slice};
+use crate::status::DONE;
+use legalpath::{PathCheck, check};
+use retire::{LogFault, MOST_ROWS, read_log_from_slice};
 use rvclass::ProgramOver;
 use std::alloc::Global;
-
-/// Why events are refused.
-#[derive(Clone, Copy)]
-pub enum EventsFault {
-    /// No event has the numbers of this row, counted from 1. The rows before it are a legal log.
-    NoEvent(u64),
-    /// This is the first illegal row.
-    Illegal(PathFault),
-}
 
 /// Checks that the text of a log is that of a legal log of the program of these pieces.
 ///
@@ -34,14 +25,14 @@ pub fn tracebench_check(alloc: Global, pieces: &[ImagePiece<'_>], log: &[u8], ro
     ensures { OfPieces pieces.now (λ image. ReportsCheck image log.now result row.new) }
 {
     let judged = judge_pieces(alloc, pieces);
-    report_check(alloc, &judged, log, row)
+    report_checked(check_log(alloc, &judged, log), row)
 }
 
-/// Checks the text of a log, and reports the result.
-fn report_check(alloc: Global, image: &Judged<'_>, log: &[u8], row: &mut u64) -> u32
-    ensures { ReportsCheck image.now log.now result row.new }
+/// Reports the result of a check.
+fn report_checked(checked: Result<u64, Fault>, row: &mut u64) -> u32
+    ensures { IsReported checked result row.new }
 {
-    match check_log(alloc, image, log) {
+    match checked {
         Ok(count) => {
             *row = count;
             DONE
@@ -81,71 +72,38 @@ pub fn tracebench_check_events(
     ensures { OfPieces pieces.now (λ image. EndsCheckEvents image events.now result row.new) }
 {
     let judged = judge_pieces(alloc, pieces);
-    report_check_events(&judged, events, row)
+    report_checked(check_numbers(&judged, events), row)
 }
 
-/// Checks events as a log, and reports the result.
-fn report_check_events(image: &Judged<'_>, events: &[EventNumbers], row: &mut u64) -> u32
-    ensures { EndsCheckEvents image.now events.now result row.new }
+/// How many events there are, where they are a legal log.
+fn check_numbers(image: &Judged<'_>, events: &[EventNumbers]) -> Result<u64, Fault>
+    ensures { AreChecked image.now events.now result }
 {
     let program = match image {
         Ok(program) => program,
-        Err(fault) => {
-            *row = 0;
-            return fault.status();
-        }
+        Err(why) => return Err(Fault::NoProgram(*why)),
     };
     if events.len() > MOST_ROWS as usize {
-        *row = 0;
-        return TOO_MANY_ROWS;
+        return Err(Fault::Log(LogFault::TooLong));
     }
-    match check_all(program, events) {
-        Ok(()) => {
-            *row = events.len() as u64;
-            DONE
-        }
-        Err(fault) => {
-            *row = events_row(fault);
-            events_status(fault)
-        }
-    }
+    check_all(program, events)
 }
 
 /// Checks events one after the other, up to the first fault.
-fn check_all(program: &ProgramOver, events: &[EventNumbers]) -> Result<(), EventsFault>
+fn check_all(program: &ProgramOver, events: &[EventNumbers]) -> Result<u64, Fault>
     requires { length events.now ≤ most_rows }
-    ensures { AreChecked (words_of program.now) events.now result }
+    ensures { AreLegal (words_of program.now) events.now result }
 {
     let mut path = PathCheck::new();
     for place in 0..events.len() {
         let event = match event_of(&events[place]) {
             Some(event) => event,
-            None => return Err(EventsFault::NoEvent(place as u64 + 1)),
+            None => return Err(Fault::NoEvent(place as u64 + 1)),
         };
         match path.pass(program, &[event]) {
             Ok(()) => {}
-            Err(fault) => return Err(EventsFault::Illegal(fault)),
+            Err(fault) => return Err(Fault::Illegal(fault)),
         }
     }
-    Ok(())
-}
-
-/// The row that is at fault.
-fn events_row(fault: EventsFault) -> u64
-    ensures { result ≡ events_row fault }
-{
-    match fault {
-        EventsFault::NoEvent(row) => row,
-        EventsFault::Illegal(fault) => u64::from(fault.row),
-    }
-}
-
-/// Why it is at fault, as a status.
-fn events_status(fault: EventsFault) -> u32
-    ensures { result ≡ events_status fault }
-{
-    match fault {
-        EventsFault::NoEvent(_) => NO_EVENT,
-        EventsFault::Illegal(fault) => why_status(fault.why),
-    }
+    Ok(events.len() as u64)
 }

@@ -10,20 +10,20 @@ ghost use Rattle.receiver.specs.Received.{events_in};
 ghost use Rattle.retire.specs.Log.{most_rows};
 ghost use Rattle.rvclass.specs.Fetch.{words_of};
 ghost use Rattle.rvclass.specs.Image.{Image};
-ghost use Rattle.ffi.specs.Compared.{IsCompared, ReportsCompare, ReportsCompared, text_row};
+ghost use Rattle.ffi.specs.Compared.{IsCompared, ReportsCompare, ReportsCompared};
 ghost use Rattle.ffi.specs.Encoded.{IsRefusedLog};
 ghost use Rattle.ffi.specs.Images.{OfPieces};
 ghost use Rattle.ffi.specs.steps.Comparing.{AreCompared, Writes};
 ghost use Rattle.ffi.specs.steps.OfTexts.{AreTextsOf};
 
 use crate::decoding::{stop_fault, stop_place};
-use crate::encoding::{LogPlace, text_between};
+use crate::encoding::LogPlace;
 use crate::fault::Fault;
 use crate::handing::hand_out;
 use crate::images::{ImagePiece, Judged, judge_pieces};
-use crate::legal_texts::legal_events;
+use crate::legal_texts::log_at;
 use crate::status::MEMORY;
-use crate::texts::{TextEnd, TextFault, Written, first_unclosed};
+use crate::texts::{TextEnd, Written, first_unclosed};
 use bench::ComparedHart;
 use captures::{CaptureFault, CaptureOutcome, decode_capture};
 use comparing::{
@@ -65,7 +65,7 @@ pub fn tracebench_compare(
 
 /// Hands out a comparison and how it ends, or reports why there is none, and of which log and row.
 fn report_compared(
-    compared: Result<Written, (u64, TextFault)>,
+    compared: Result<Written, (u64, Fault)>,
     buffer: &mut [u8],
     wanted: &mut u64,
     ended: &mut TextEnd,
@@ -82,21 +82,10 @@ fn report_compared(
         Err((log, fault)) => {
             *place = LogPlace {
                 log,
-                row: row_of(fault),
+                row: fault.row(),
             };
             fault.status()
         }
-    }
-}
-
-/// The row that a fault names, counted from 1; 0 where it names none.
-fn row_of(fault: TextFault) -> u64
-    ensures { result ≡ text_row fault }
-{
-    match fault {
-        TextFault::Of(why) => why.row(),
-        TextFault::Symbols(_) => 0,
-        TextFault::Count => 0,
     }
 }
 
@@ -108,30 +97,30 @@ fn compare_logs(
     capture: &[u8],
     logs: &[u8],
     ends: &[u64],
-) -> Result<Written, (u64, TextFault)>
+) -> Result<Written, (u64, Fault)>
     ensures { IsCompared image.now harts capture.now logs.now ends.now result }
 {
     let program = match image {
         Ok(program) => program,
-        Err(why) => return Err((0, TextFault::Of(Fault::NoProgram(*why)))),
+        Err(why) => return Err((0, Fault::NoProgram(*why))),
     };
     let outcome = match decode_capture(alloc, program, harts, capture) {
         Ok(outcome) => outcome,
-        Err(_) => return Err((0, TextFault::Of(Fault::Memory))),
+        Err(_) => return Err((0, Fault::Memory)),
     };
     if stop_fault(outcome.fault) == MEMORY {
-        return Err((0, TextFault::Of(Fault::Memory)));
+        return Err((0, Fault::Memory));
     }
     let counts = match counts_of(alloc, outcome.harts.len(), outcome.fault, capture) {
         Ok(counts) => counts,
-        Err(_) => return Err((0, TextFault::Of(Fault::Memory))),
+        Err(_) => return Err((0, Fault::Memory)),
     };
     if ends.len() != outcome.harts.len() {
-        return Err((0, TextFault::Count));
+        return Err((0, Fault::Count));
     }
     let said = match compare_each(alloc, program, logs, ends, &outcome, counts.as_slice()) {
         Ok(said) => said,
-        Err((place, why)) => return Err((place, TextFault::Of(why))),
+        Err((place, why)) => return Err((place, why)),
     };
     match write_said(
         alloc,
@@ -142,7 +131,7 @@ fn compare_logs(
         outcome.fault,
     ) {
         Ok(written) => Ok(written),
-        Err(_) => Err((0, TextFault::Of(Fault::Memory))),
+        Err(_) => Err((0, Fault::Memory)),
     }
 }
 
@@ -194,13 +183,10 @@ fn compare_each(
     ensures refused { IfErr result (λ why. IsRefusedLog program.now logs.now ends.now why.0 why.1) }
 {
     let mut said = Vec::new(alloc);
-    let mut from = 0;
     for place in 0..ends.len() {
-        let end = ends[place];
-        let text = text_between(logs, from, end);
-        let events = match legal_events(alloc, program, text) {
+        let events = match log_at(alloc, program, logs, ends, place) {
             Ok(events) => events,
-            Err(fault) => return Err((place as u64, fault)),
+            Err(why) => return Err(why),
         };
         let decoded = &outcome.harts[place];
         let closed = outcome.closed[place];
@@ -210,7 +196,6 @@ fn compare_each(
             Ok(()) => {}
             Err(_) => return Err((place as u64, Fault::Memory)),
         }
-        from = end;
     }
     Ok(said)
 }

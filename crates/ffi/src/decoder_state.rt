@@ -1,14 +1,12 @@
 //! What a decoder remembers, as numbers.
 
-ghost use Rattle.std.specs.Prelude.{◌≡◌, IfSome, Some};
+ghost use Rattle.std.specs.Prelude.{◌≡◌, ◌↔◌, IfSome, IsTrue, Some};
 ghost use Rattle.decoder.specs.declared.state.DecoderState.{DecoderState as AnyState};
-ghost use Rattle.ffi.specs.DecoderKept.{IsOfState, delta_waiting, number_of_announced};
-ghost use Rattle.ffi.specs.DecoderKept.{number_of_phase, outcomes_waiting};
-ghost use Rattle.ffi.specs.steps.ReadingDecoders.{announced_in, is_announced_read, is_state_read};
-ghost use Rattle.ffi.specs.steps.ReadingDecoders.{is_waiting_read, phase_in, state_in, waiting_in};
+ghost use Rattle.ffi.specs.DecoderKept.{HasFewOutcomes, IsOfState, delta_waiting, number_of_announced};
+ghost use Rattle.ffi.specs.DecoderKept.{number_of_phase, numbers_of_state, outcomes_waiting};
+ghost use Rattle.ffi.specs.steps.ReadingDecoders.{announced_in, phase_in, state_in, waiting_in};
 
-use crate::encoder_state::are_outcomes;
-use crate::events::{EventNumbers, event_if_any, is_event_if_any, numbers_if_any};
+use crate::events::{EventNumbers, event_if_any, numbers_if_any};
 use crate::numbers::{mode_in, number_of_mode, outcomes_in};
 use decoder::{DecoderState, Phase, Waiting};
 use payload::{Mode, Outcomes};
@@ -24,7 +22,7 @@ pub const CLOSED: u32 = 3;
 
 /// All that a decoder remembers, as numbers. A flag is 0 or 1. What a flag says is absent is 0.
 #[repr(C)]
-#[derive(Clone, Copy)]
+#[derive(Clone, Copy, PartialEq, Eq)]
 pub struct DecoderNumbers {
     /// How far the trace has come: [`UNOPENED`], [`RUNNING`], [`PASSING_OVER`] or [`CLOSED`].
     pub phase: u32,
@@ -119,8 +117,9 @@ pub(crate) fn state_of(numbers: &DecoderNumbers) -> Option<DecoderState>
     ensures found { IfSome result (λ state. IsOfState numbers.now state) }
     ensures only { (state : AnyState) → IsOfState numbers.now state → result ≡ Some state }
 {
-    if has_state(numbers) {
-        Some(state_in(numbers))
+    let state = state_in(numbers);
+    if has_numbers(&state, numbers) {
+        Some(state)
     } else {
         None
     }
@@ -128,33 +127,11 @@ pub(crate) fn state_of(numbers: &DecoderNumbers) -> Option<DecoderState>
 
 /// Whether a state has these numbers.
 #[inline(always)]
-fn has_state(numbers: &DecoderNumbers) -> bool
-    ensures { result ≡ is_state_read numbers.now }
+fn has_numbers(state: &DecoderState, numbers: &DecoderNumbers) -> bool
+    ensures value { IsTrue result ↔ (numbers.now ≡ numbers_of_state state.now) }
+    ensures few { HasFewOutcomes state.now }
 {
-    numbers.phase < 4
-        && (numbers.mode < 2
-            && (has_announced(numbers)
-                && (has_waiting(numbers) && is_event_if_any(numbers.has_last, &numbers.last))))
-}
-
-/// Whether the mode that was announced has these numbers, if one was.
-fn has_announced(numbers: &DecoderNumbers) -> bool
-    ensures { result ≡ is_announced_read numbers.now.is_announced numbers.now.announced }
-{
-    if numbers.is_announced == 0 {
-        return numbers.announced == 0;
-    }
-    numbers.is_announced == 1 && numbers.announced < 2
-}
-
-/// Whether the packet that waits has these numbers, if one does.
-fn has_waiting(numbers: &DecoderNumbers) -> bool
-    ensures { result ≡ is_waiting_read numbers.now.waits numbers.now.outcomes numbers.now.map numbers.now.delta }
-{
-    if numbers.waits == 0 {
-        return numbers.outcomes == 0 && (numbers.map == 0 && numbers.delta == 0);
-    }
-    numbers.waits == 1 && are_outcomes(numbers.outcomes, numbers.map)
+    numbers_of_state(state) == *numbers
 }
 
 /// A state that has these numbers, if any has.

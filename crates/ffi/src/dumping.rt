@@ -52,17 +52,14 @@ pub fn tracebench_dump(
 fn end_of(dumped: &Dumped) -> DumpEnd
     ensures { result ≡ dump_end dumped.now.bad dumped.now.fault }
 {
-    match dumped.fault {
-        None => DumpEnd {
-            place: 0,
-            fault: DONE,
-            bad: u32::from(dumped.bad),
-        },
-        Some((place, why)) => DumpEnd {
-            place,
-            fault: message_status(why),
-            bad: u32::from(dumped.bad),
-        },
+    let (place, fault) = match dumped.fault {
+        None => (0, DONE),
+        Some((place, why)) => (place, message_status(why)),
+    };
+    DumpEnd {
+        place,
+        fault,
+        bad: u32::from(dumped.bad),
     }
 }
 

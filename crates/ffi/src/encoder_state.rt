@@ -1,12 +1,12 @@
 //! What an encoder keeps, as numbers.
 
-ghost use Rattle.std.specs.Prelude.{◌≡◌, ◌≤◌, IfSome, length};
+ghost use Rattle.std.specs.Prelude.{◌≡◌, ◌≤◌, ◌↔◌, IfSome, IsTrue, length};
 ghost use Rattle.encoder.specs.declared.state.EncoderState.{EncoderState as AnyState};
 ghost use Rattle.payload.specs.Limits.{most_outcomes};
 ghost use Rattle.ffi.specs.EncoderKept.{IsOfState, number_of_due, numbers_of_state};
-ghost use Rattle.ffi.specs.steps.ReadingStates.{are_outcomes_read, due_in, is_state_read, state_in};
+ghost use Rattle.ffi.specs.steps.ReadingStates.{due_in, state_in};
 
-use crate::events::{EventNumbers, event_if_any, is_event_if_any, numbers_if_any};
+use crate::events::{EventNumbers, event_if_any, numbers_if_any};
 use crate::numbers::{mode_in, number_of_mode, outcomes_in};
 use encoder::{Due, EncoderState};
 
@@ -25,7 +25,7 @@ pub const DUE_HANDLER: u32 = 5;
 
 /// What an encoder keeps between two events, as numbers.
 #[repr(C)]
-#[derive(Clone, Copy)]
+#[derive(Clone, Copy, PartialEq, Eq)]
 pub struct EncoderNumbers {
     /// How many retirements come between two periodic syncs: the period less 1.
     pub between: u16,
@@ -72,8 +72,9 @@ pub(crate) fn state_of(numbers: &EncoderNumbers) -> Option<EncoderState>
     ensures found { IfSome result (λ state. IsOfState numbers.now state) }
     ensures only { (state : AnyState) → IsOfState numbers.now state → result ≡ Some state }
 {
-    if has_state(numbers) {
-        Some(state_in(numbers))
+    let state = state_in(numbers);
+    if has_numbers(&state, numbers) {
+        Some(state)
     } else {
         None
     }
@@ -81,21 +82,11 @@ pub(crate) fn state_of(numbers: &EncoderNumbers) -> Option<EncoderState>
 
 /// Whether a state has these numbers.
 #[inline(always)]
-fn has_state(numbers: &EncoderNumbers) -> bool
-    ensures { result ≡ is_state_read numbers.now }
+fn has_numbers(state: &EncoderState, numbers: &EncoderNumbers) -> bool
+    ensures value { IsTrue result ↔ (numbers.now ≡ numbers_of_state state.now) }
+    ensures few { length state.now.pending ≤ most_outcomes }
 {
-    numbers.mode < 2
-        && (numbers.due < 6
-            && (are_outcomes(numbers.outcomes, numbers.map)
-                && is_event_if_any(numbers.holds, &numbers.held)))
-}
-
-/// Whether as many outcomes fit into a packet, and have this map.
-#[inline(always)]
-pub(crate) fn are_outcomes(count: u32, map: u32) -> bool
-    ensures { result ≡ are_outcomes_read count map }
-{
-    count < 32 && u64::from(map) < 1 << count
+    numbers_of_state(state) == *numbers
 }
 
 /// A state that has these numbers, if any has.

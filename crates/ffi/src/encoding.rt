@@ -1,25 +1,29 @@
 //! From the texts of logs to a capture.
 
-ghost use Rattle.std.specs.Prelude.{◌≡◌, ◌≤◌, IfErr, IfOk, IfSome, None, length, option_map};
+ghost use Rattle.std.specs.Prelude.{◌≡◌, ◌≤◌, IfErr, IfOk, IfSome, None, OnOk, length};
 ghost use Rattle.captures.specs.Versions.{capture_of};
+ghost use Rattle.legalpath.specs.Legal.{Legal};
+ghost use Rattle.legalpath.specs.ProgramLog.{program_log};
 ghost use Rattle.message.specs.Version.{most_harts};
 ghost use Rattle.message.specs.declared.header.Version.TheVariants.{Two};
-ghost use Rattle.ffi.specs.Encoded.{AreInRange, IsEncoded, IsMade, IsNoLegalText, IsOutOfRange, IsRefusedLog};
-ghost use Rattle.ffi.specs.Encoded.{ReportsEncode, ReportsMade, mode_of, text_between, version_of};
+ghost use Rattle.rvclass.specs.Fetch.{words_of};
+ghost use Rattle.ffi.specs.Encoded.{AreInRange, IsEncoded, IsMade, IsOutOfRange, IsRefusedLog};
+ghost use Rattle.ffi.specs.Encoded.{ReportsEncode, ReportsMade, mode_of, version_of};
 ghost use Rattle.ffi.specs.Images.{OfPieces};
-ghost use Rattle.ffi.specs.steps.Encoding.{AddsLogs, IsEncodedLog};
-ghost use Rattle.ffi.specs.steps.OfTexts.{AreTextsOf, IsTextOf};
+ghost use Rattle.ffi.specs.steps.Encoding.{AddsLog, AddsLogs};
+ghost use Rattle.ffi.specs.steps.OfTexts.{AreTextsOf};
 
 use crate::fault::Fault;
 use crate::handing::hand_out;
 use crate::images::{ImagePiece, Judged, judge_pieces};
-use crate::legal_texts::legal_events;
+use crate::legal_texts::log_at;
 use crate::numbers::{DIFFERENTIAL, FULL};
 use captures::{CaptureBytes, HartMessages, write_start};
 use message::Version;
 use payload::Mode;
+use retire::Event;
 use rvclass::ProgramOver;
-use std::alloc::Global;
+use std::alloc::{AllocError, Global};
 
 /// A capture without a header.
 pub const VERSION_ONE: u32 = 1;
@@ -166,7 +170,7 @@ fn encode_in(
         Ok(()) => {}
         Err(_) => return Err((0, Fault::Memory)),
     }
-    match encode_each(alloc, program, logs, ends, period, mode, &mut capture) {
+    match encode_each(alloc, program, logs, ends, settings, &mut capture) {
         Ok(()) => Ok(capture),
         Err(why) => Err(why),
     }
@@ -178,60 +182,58 @@ fn encode_each(
     program: &ProgramOver<'_>,
     logs: &[u8],
     ends: &[u64],
-    period: u16,
-    mode: Mode,
+    settings: Settings,
     capture: &mut Vec<u8>,
 ) -> Result<(), (u64, Fault)>
-    requires period { 1 ≤ period }
+    requires period { 1 ≤ settings.period }
     requires few { length ends.now ≤ most_harts Two }
     ensures added { IfOk result (λ done. AreTextsOf program.now logs.now ends.now
-        (AddsLogs period mode capture.old.items capture.new.items)) }
+        (AddsLogs settings.period settings.mode capture.old.items capture.new.items)) }
     ensures refused { IfErr result (λ why. IsRefusedLog program.now logs.now ends.now why.0 why.1) }
 {
-    let mut from = 0;
     for place in 0..ends.len() {
-        let end = ends[place];
-        let text = text_between(logs, from, end);
-        let own = match encode_text(alloc, program, place as u16, text, period, mode) {
-            Ok(own) => own,
-            Err(fault) => return Err((place as u64, fault)),
+        let events = match log_at(alloc, program, logs, ends, place) {
+            Ok(events) => events,
+            Err(why) => return Err(why),
         };
-        match capture.extend_from_slice(own.as_slice()) {
+        match add_log(
+            alloc,
+            program,
+            place as u16,
+            events.as_slice(),
+            settings,
+            capture,
+        ) {
             Ok(()) => {}
             Err(_) => return Err((place as u64, Fault::Memory)),
         }
-        from = end;
     }
     Ok(())
 }
 
-/// The bytes of the messages of a hart, by the legal log of a text.
-fn encode_text(
+/// Adds the messages of a hart that has these events to a capture.
+fn add_log(
     alloc: Global,
     program: &ProgramOver<'_>,
     hart: u16,
-    text: Option<&[u8]>,
-    period: u16,
-    mode: Mode,
-) -> Result<Vec<u8>, Fault>
-    requires { 1 ≤ period }
-    ensures made { IfOk result (λ bytes.
-        IsTextOf program.now (option_map (λ own. own.now) text.entry) (IsEncodedLog hart period mode bytes.items)) }
-    ensures fault { IfErr result (IsNoLegalText program.now (option_map (λ own. own.now) text.entry)) }
+    events: &[Event],
+    settings: Settings,
+    capture: &mut Vec<u8>,
+) -> Result<(), AllocError>
+    requires { 1 ≤ settings.period }
+    ensures { Legal (words_of program.now) events.now → OnOk result (AddsLog hart settings.period settings.mode
+        capture.old.items capture.new.items (program_log program.now events.now)) }
 {
-    let events = match legal_events(alloc, program, text) {
-        Ok(events) => events,
-        Err(why) => return Err(why),
-    };
-    let mut messages = HartMessages::<CaptureBytes>::new(alloc, hart, period, mode);
-    match messages.add(program, events.as_slice()) {
-        Ok(()) => {}
-        Err(_) => return Err(Fault::Memory),
-    }
-    match messages.finish(program) {
-        Ok(bytes) => Ok(bytes),
-        Err(_) => Err(Fault::Memory),
-    }
+    let mut messages = HartMessages::<CaptureBytes>::new(
+        alloc,
+        hart,
+        settings.period,
+        settings.mode,
+    );
+    messages.add(program, events)?;
+    let bytes = messages.finish(program)?;
+    capture.extend_from_slice(bytes.as_slice())?;
+    Ok(())
 }
 
 /// The mode of a number.
@@ -254,11 +256,4 @@ pub(crate) fn version_of(number: u32) -> Option<Version>
         VERSION_TWO => Some(Version::Two),
         _ => None,
     }
-}
-
-/// The bytes from one place up to another.
-pub(crate) fn text_between(logs: &[u8], from: u64, end: u64) -> Option<&[u8]>
-    ensures { option_map (λ text. text.now) result ≡ text_between logs.now from end }
-{
-    logs.get(from as usize..end as usize)
 }

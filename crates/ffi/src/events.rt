@@ -3,8 +3,7 @@
 ghost use Rattle.std.specs.Prelude.{◌≡◌, ◌==◌, ◌&&◌, IfSome, IsTrue};
 ghost use Rattle.retire.specs.declared.event.Event.{Event as AnyEvent};
 ghost use Rattle.ffi.specs.Events.{numbers_if_any, numbers_of_event};
-ghost use Rattle.ffi.specs.steps.ReadingEvents.{event_if_any, event_in, is_any_read, is_event_read};
-ghost use Rattle.ffi.specs.steps.ReadingEvents.{is_none_read, is_retirement_read};
+ghost use Rattle.ffi.specs.steps.ReadingEvents.{event_if_any, event_in, is_retirement_read};
 
 use retire::Event;
 
@@ -15,7 +14,7 @@ pub const TRAP_TAKEN: u32 = 1;
 
 /// A retirement or a trap as numbers. What an event of this kind does not have is 0.
 #[repr(C)]
-#[derive(Clone, Copy)]
+#[derive(Clone, Copy, PartialEq, Eq)]
 pub struct EventNumbers {
     /// Which event it is: [`RETIREMENT`] or [`TRAP_TAKEN`].
     pub kind: u32,
@@ -77,22 +76,12 @@ pub(crate) fn event_of(numbers: &EventNumbers) -> Option<Event>
     ensures found { IfSome result (λ event. numbers.now ≡ numbers_of_event event) }
     ensures only { (event : AnyEvent) → numbers.now ≡ numbers_of_event event → result ≡ Some event }
 {
-    if is_event(numbers) {
-        Some(event_in(numbers))
+    let event = event_in(numbers);
+    if numbers_of_event(&event) == *numbers {
+        Some(event)
     } else {
         None
     }
-}
-
-/// Whether numbers are those of an event: what an event of their kind does not have is 0.
-#[inline(always)]
-fn is_event(numbers: &EventNumbers) -> bool
-    ensures { result ≡ is_event_read numbers.now }
-{
-    if numbers.kind == RETIREMENT {
-        return numbers.cause == 0 && (numbers.interrupt == 0 && numbers.tval == 0);
-    }
-    numbers.kind == TRAP_TAKEN && (numbers.itype == 0 && numbers.interrupt < 2)
 }
 
 /// Reads an event from its numbers. Whether they are an event's.
@@ -143,28 +132,6 @@ fn read_trap(numbers: &EventNumbers, event: &mut Event) -> bool
         }
         None => false,
     }
-}
-
-/// Whether numbers are those of an event that there may be by this flag. Without one all are 0.
-#[inline(always)]
-pub(crate) fn is_event_if_any(there: u32, numbers: &EventNumbers) -> bool
-    ensures { result ≡ is_any_read there numbers.now }
-{
-    if there == 0 {
-        return is_none(numbers);
-    }
-    there == 1 && is_event(numbers)
-}
-
-/// Whether all numbers are 0.
-fn is_none(numbers: &EventNumbers) -> bool
-    ensures { result ≡ is_none_read numbers.now }
-{
-    numbers.kind == 0
-        && (numbers.itype == 0
-            && (numbers.privilege == 0
-                && (numbers.cause == 0
-                    && (numbers.interrupt == 0 && (numbers.address == 0 && numbers.tval == 0)))))
 }
 
 /// An event that has these numbers, if any has.

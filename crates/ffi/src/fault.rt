@@ -1,16 +1,23 @@
 //! Why a call gives no answer.
 
 ghost use Rattle.std.specs.Prelude.{◌≡◌, ◌≤◌};
-ghost use Rattle.ffi.specs.Statuses.{fault_row, fault_status, image_status, log_row, log_status};
-ghost use Rattle.ffi.specs.Statuses.{piece_status, program_status, why_status};
+ghost use Rattle.ffi.specs.Statuses.{fault_row, fault_status, image_status, line_hart_status, line_status, log_row};
+ghost use Rattle.ffi.specs.Statuses.{log_status, piece_status, program_status, symbols_status, why_status};
 ghost use Rattle.ffi.specs.declared.fault.Fault.TheVariants.{Memory, Log, Illegal};
 ghost use Rattle.ffi.specs.declared.status.TheConstants.{OFF_PROGRAM};
 
+use crate::decoding::decode_status;
+use crate::packing::pack_status;
 use crate::status::*;
+use captures::LineFault;
+use decoder::DecodeFault;
 use legalpath::{PathFault, Why};
+use message::Version;
+use payload::PackFault;
 use retire::LogFault;
 use rvclass::{PieceFault, ProgramFault};
 use std::alloc::AllocError;
+use symbols::SymbolsFault;
 
 /// Why an image makes no program.
 #[derive(Clone, Copy)]
@@ -54,6 +61,20 @@ pub enum Fault {
     Range,
     /// A log ends before its beginning, or past the texts.
     Ends,
+    /// There are more or fewer logs than harts.
+    Count,
+    /// The symbols are not read.
+    Symbols(SymbolsFault),
+    /// A line has a fault: its number, counted from 1, and what is wrong with it.
+    Line(u64, LineFault),
+    /// No event has the numbers of this row, counted from 1. The rows before it are a legal log.
+    NoEvent(u64),
+    /// No decoder has these numbers.
+    State,
+    /// The payload is that of no packet.
+    Payload(PackFault),
+    /// The decoder refuses the packet.
+    Decode(DecodeFault),
 }
 
 impl From<AllocError> for Fault {
@@ -92,20 +113,26 @@ impl Fault {
             Fault::Illegal(why) => why_status(why.why),
             Fault::Range => OUT_OF_RANGE,
             Fault::Ends => BAD_ENDS,
+            Fault::Count => UNEQUAL_COUNTS,
+            Fault::Symbols(why) => symbols_status(why),
+            Fault::Line(_, why) => line_status(why),
+            Fault::NoEvent(_) => NO_EVENT,
+            Fault::State => BAD_STATE,
+            Fault::Payload(why) => pack_status(why),
+            Fault::Decode(why) => decode_status(why),
         }
     }
 
-    /// The row that the fault names, counted from 1; 0 where it names none.
+    /// The row or line that the fault names, counted from 1; 0 where it names none.
     pub(crate) fn row(self) -> u64
         ensures { result ≡ fault_row self }
     {
         match self {
-            Fault::Memory => 0,
-            Fault::NoProgram(_) => 0,
             Fault::Log(why) => log_row(why),
             Fault::Illegal(why) => u64::from(why.row),
-            Fault::Range => 0,
-            Fault::Ends => 0,
+            Fault::Line(number, _) => number,
+            Fault::NoEvent(row) => row,
+            _ => 0,
         }
     }
 }
@@ -185,5 +212,39 @@ pub(crate) fn why_status(why: Why) -> u32
         Why::WrongNext => WRONG_NEXT,
         Why::WrongPrivilege => WRONG_PRIVILEGE,
         Why::WrongEpc => WRONG_EPC,
+    }
+}
+
+/// Why symbols are not read.
+fn symbols_status(why: SymbolsFault) -> u32
+    ensures { result ≡ symbols_status why }
+{
+    match why {
+        SymbolsFault::TooLarge => SYMBOLS_TOO_LARGE,
+        SymbolsFault::NoSymbol => NO_SYMBOL,
+        SymbolsFault::Memory => MEMORY,
+    }
+}
+
+/// What is wrong with a line, as a status.
+fn line_status(why: LineFault) -> u32
+    ensures { result ≡ line_status why }
+{
+    match why {
+        LineFault::Fields => LINE_FIELDS,
+        LineFault::Hart(version) => line_hart_status(version),
+        LineFault::Number(_) => LINE_NUMBER,
+        LineFault::Bytes => LINE_BYTES,
+        LineFault::Above => LINE_ABOVE,
+    }
+}
+
+/// A line's hart is not below the most harts of a version, as a status.
+fn line_hart_status(version: Version) -> u32
+    ensures { result ≡ line_hart_status version }
+{
+    match version {
+        Version::One => LINE_HART_ONE,
+        Version::Two => LINE_HART_TWO,
     }
 }

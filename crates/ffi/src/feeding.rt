@@ -3,21 +3,19 @@
 ghost use Rattle.std.specs.Prelude.{◌≡◌, [], None, ℕ, List};
 ghost use Rattle.rvclass.specs.Words.{Words};
 ghost use Rattle.ffi.specs.DecoderKept.{HaveMode, NumbersStand};
-ghost use Rattle.ffi.specs.Fed.{GoesOnIfDone, IsFed, ReportsFeed, feed_status};
+ghost use Rattle.ffi.specs.Fed.{GoesOnIfDone, IsFed, ReportsFeed};
 ghost use Rattle.ffi.specs.Images.{Judged as AnyJudged};
 ghost use Rattle.ffi.specs.declared.decoder_state.DecoderNumbers.{DecoderNumbers as AnyNumbers};
 ghost use Rattle.ffi.specs.steps.FeedingAll.{IsPacketFed, IsToFeed};
 
 use crate::decoder_state::{DecoderNumbers, numbers_of_state, state_of};
-use crate::decoding::decode_status;
 use crate::events::EventNumbers;
-use crate::fault::ImageFault;
+use crate::fault::Fault;
 use crate::handing::hand_out_events;
 use crate::images::Judged;
-use crate::packing::pack_status;
-use crate::status::{BAD_STATE, DONE};
+use crate::status::DONE;
 use decoder::{DecodeFault, Decoder, DecoderState};
-use payload::{PackFault, Packet, unpack};
+use payload::{Packet, unpack};
 use retire::Event;
 use rvclass::ProgramOver;
 use std::alloc::Global;
@@ -29,19 +27,6 @@ pub struct FedPayload {
     pub numbers: DecoderNumbers,
     /// The events that are added.
     pub events: Vec<Event>,
-}
-
-/// Why a payload is not taken.
-#[derive(Clone, Copy)]
-pub enum FeedFault {
-    /// No decoder has these numbers.
-    State,
-    /// The payload is that of no packet.
-    Payload(PackFault),
-    /// The image makes no program.
-    Image(ImageFault),
-    /// The decoder refuses the packet.
-    Decode(DecodeFault),
 }
 
 /// Writes the numbers of a decoder before the first packet. No memory is taken.
@@ -70,7 +55,7 @@ pub(crate) fn report_feed(
             go_on_if_done(status, state, fed.numbers);
             status
         }
-        Err(fault) => feed_status(fault),
+        Err(fault) => fault.status(),
     }
 }
 
@@ -89,25 +74,25 @@ fn feed_payload(
     image: &Judged<'_>,
     numbers: &DecoderNumbers,
     payload: &[u8],
-) -> Result<FedPayload, FeedFault>
+) -> Result<FedPayload, Fault>
     ensures { IsFed image.now payload.now numbers.now result }
 {
     let Some(state) = state_of(numbers) else {
-        return Err(FeedFault::State);
+        return Err(Fault::State);
     };
     let packet = match unpack(payload) {
         Ok(packet) => packet,
-        Err(why) => return Err(FeedFault::Payload(why)),
+        Err(why) => return Err(Fault::Payload(why)),
     };
     let program = match image {
         Ok(program) => program,
-        Err(why) => return Err(FeedFault::Image(*why)),
+        Err(why) => return Err(Fault::NoProgram(*why)),
     };
     let mut events = Vec::new(alloc);
     let mut next = state;
     match feed_packet(program, &mut next, &packet, &mut events) {
         Ok(numbers) => Ok(FedPayload { numbers, events }),
-        Err(why) => Err(FeedFault::Decode(why)),
+        Err(why) => Err(Fault::Decode(why)),
     }
 }
 
@@ -130,17 +115,5 @@ pub(crate) fn feed_packet(
             Ok(numbers_of_state(state))
         }
         Err(why) => Err(why),
-    }
-}
-
-/// Why a payload is not taken, as a status.
-fn feed_status(fault: FeedFault) -> u32
-    ensures { result ≡ feed_status fault }
-{
-    match fault {
-        FeedFault::State => BAD_STATE,
-        FeedFault::Payload(why) => pack_status(why),
-        FeedFault::Image(why) => why.status(),
-        FeedFault::Decode(why) => decode_status(why),
     }
 }

@@ -8,11 +8,11 @@ ghost use Rattle.ffi.specs.steps.FeedingAll.{IsNextFed};
 
 use crate::decoder_state::{DecoderNumbers, state_of};
 use crate::decoding::decode_status;
-use crate::encoding::text_between;
 use crate::events::EventNumbers;
 use crate::feeding::feed_packet;
 use crate::handing::hand_out_events;
 use crate::images::{ImagePiece, Judged, judge_pieces};
+use crate::legal_texts::text_at;
 use crate::packing::pack_status;
 use crate::status::{BAD_STATE, DONE, OUT_OF_RANGE};
 use decoder::DecoderState;
@@ -111,11 +111,9 @@ fn feed_while_room(
     };
     let mut list = Vec::new(alloc);
     let mut kept = first;
-    let mut from = 0;
     let mut written = 0;
     for place in 0..ends.len() {
-        let end = ends[place];
-        let payload = text_between(payloads, from, end);
+        let payload = text_at(payloads, ends, place);
         match feed_next(
             program,
             &mut kept,
@@ -133,7 +131,6 @@ fn feed_while_room(
                 };
             }
         }
-        from = end;
     }
     FedPayloads {
         taken: ends.len() as u64,

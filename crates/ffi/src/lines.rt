@@ -2,28 +2,15 @@
 
 ghost use Rattle.std.specs.Prelude.{◌≡◌, ◌≤◌, IfSome, Some};
 ghost use Rattle.message.specs.Version.{most_harts};
-ghost use Rattle.ffi.specs.OfLines.{IsOfLines, ReportsOfLines, line_at_fault, lines_status, settings_named};
-ghost use Rattle.ffi.specs.OfLines.{count_asked, settings_with};
-ghost use Rattle.ffi.specs.Statuses.{line_hart_status, line_status};
+ghost use Rattle.ffi.specs.OfLines.{IsOfLines, ReportsOfLines, count_asked, settings_named, settings_with};
 
 use crate::encoding::{mode_of, version_of};
+use crate::fault::Fault;
 use crate::handing::hand_out;
-use crate::status::*;
-use captures::{LineFault, LinesFault, Settings, write_capture};
+use captures::{LinesFault, Settings, write_capture};
 use message::Version;
 use payload::Mode;
 use std::alloc::Global;
-
-/// Why there is no capture of lines.
-#[derive(Clone, Copy)]
-pub enum LinesRefusal {
-    /// A number is out of its range.
-    Range,
-    /// A line has a fault: its number, counted from 1, and what is wrong with it.
-    Line(u64, LineFault),
-    /// An allocation failed.
-    Memory,
-}
 
 /// Writes the capture of the lines of a text to a buffer, one message a line, in the order of the lines: what
 /// `tracebench capture` writes. The version is [`VERSION_ONE`](crate::VERSION_ONE) or
@@ -32,9 +19,12 @@ pub enum LinesRefusal {
 /// the highest of the lines. A line's field counts so many `numbers`, 2 or more, and then begins again at 0, as with
 /// `--number-bits`; with 0 it has the message's own number.
 ///
-/// The status is [`DONE`], [`TOO_SMALL`], [`OUT_OF_RANGE`] where one of these numbers is out of its range, [`MEMORY`], or
-/// says what is wrong with the first line that has a fault, which is tested in this order: [`LINE_FIELDS`],
-/// [`LINE_HART_ONE`] or [`LINE_HART_TWO`], [`LINE_NUMBER`], [`LINE_BYTES`], [`LINE_ABOVE`]. `line` is then that line,
+/// The status is [`DONE`](crate::status::DONE), [`TOO_SMALL`](crate::status::TOO_SMALL),
+/// [`OUT_OF_RANGE`](crate::status::OUT_OF_RANGE) where one of these numbers is out of its range,
+/// [`MEMORY`](crate::status::MEMORY), or says what is wrong with the first line that has a fault, which is tested in this
+/// order: [`LINE_FIELDS`](crate::status::LINE_FIELDS), [`LINE_HART_ONE`](crate::status::LINE_HART_ONE) or
+/// [`LINE_HART_TWO`](crate::status::LINE_HART_TWO), [`LINE_NUMBER`](crate::status::LINE_NUMBER),
+/// [`LINE_BYTES`](crate::status::LINE_BYTES), [`LINE_ABOVE`](crate::status::LINE_ABOVE). `line` is then that line,
 /// counted from 1, and else 0.
 pub fn tracebench_capture_of_lines(
     alloc: Global,
@@ -58,8 +48,8 @@ pub fn tracebench_capture_of_lines(
             hand_out(capture.as_slice(), buffer, wanted)
         }
         Err(why) => {
-            *line = line_at_fault(why);
-            lines_status(why)
+            *line = why.row();
+            why.status()
         }
     }
 }
@@ -129,11 +119,7 @@ fn numbers_asked(numbers: u64) -> Option<u64>
 }
 
 /// The capture of the lines of a text, or why there is none.
-fn capture_of(
-    alloc: Global,
-    text: &[u8],
-    settings: Option<Settings>,
-) -> Result<Vec<u8>, LinesRefusal>
+fn capture_of(alloc: Global, text: &[u8], settings: Option<Settings>) -> Result<Vec<u8>, Fault>
     requires period { IfSome settings (λ own. 1 ≤ own.period) }
     requires harts { IfSome settings (λ own.
         IfSome own.harts (λ harts. (1 ≤ harts) × (harts ≤ most_harts own.version))) }
@@ -141,57 +127,12 @@ fn capture_of(
     ensures { IsOfLines settings text.now result }
 {
     let Some(settings) = settings else {
-        return Err(LinesRefusal::Range);
+        return Err(Fault::Range);
     };
     let mut capture = Vec::new(alloc);
     match write_capture(settings, text, &mut capture) {
         Ok(()) => Ok(capture),
-        Err(LinesFault::Line { line, why }) => Err(LinesRefusal::Line(line, why)),
-        Err(LinesFault::Write) => Err(LinesRefusal::Memory),
-    }
-}
-
-/// Why there is no capture of lines, as a status.
-fn lines_status(why: LinesRefusal) -> u32
-    ensures { result ≡ lines_status why }
-{
-    match why {
-        LinesRefusal::Range => OUT_OF_RANGE,
-        LinesRefusal::Line(_, why) => line_status(why),
-        LinesRefusal::Memory => MEMORY,
-    }
-}
-
-/// What is wrong with a line, as a status.
-fn line_status(why: LineFault) -> u32
-    ensures { result ≡ line_status why }
-{
-    match why {
-        LineFault::Fields => LINE_FIELDS,
-        LineFault::Hart(version) => line_hart_status(version),
-        LineFault::Number(_) => LINE_NUMBER,
-        LineFault::Bytes => LINE_BYTES,
-        LineFault::Above => LINE_ABOVE,
-    }
-}
-
-/// A line's hart is not below the most harts of a version, as a status.
-fn line_hart_status(version: Version) -> u32
-    ensures { result ≡ line_hart_status version }
-{
-    match version {
-        Version::One => LINE_HART_ONE,
-        Version::Two => LINE_HART_TWO,
-    }
-}
-
-/// The line at fault, counted from 1; 0 where none is.
-fn line_at_fault(why: LinesRefusal) -> u64
-    ensures { result ≡ line_at_fault why }
-{
-    match why {
-        LinesRefusal::Range => 0,
-        LinesRefusal::Line(number, _) => number,
-        LinesRefusal::Memory => 0,
+        Err(LinesFault::Line { line, why }) => Err(Fault::Line(line, why)),
+        Err(LinesFault::Write) => Err(Fault::Memory),
     }
 }

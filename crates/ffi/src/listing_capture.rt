@@ -10,7 +10,7 @@ use crate::decoding::{stop_fault, stop_place};
 use crate::fault::Fault;
 use crate::images::{ImagePiece, Judged, judge_pieces};
 use crate::salvaged::{end_of_found, harts_asked};
-use crate::texts::{TextEnd, TextFault, Written, first_unclosed, report_text};
+use crate::texts::{TextEnd, Written, first_unclosed, report_text};
 use frames::{harts_counted, mode_of, start_of};
 use listing::{Form, ListInput, Listed, list_capture};
 use message::{HartRange, NoProgress};
@@ -101,12 +101,12 @@ fn list_text(
     capture: &[u8],
     symbols: &[u8],
     format: u32,
-) -> Result<Written, TextFault>
+) -> Result<Written, Fault>
     ensures { IsTextIn image.now symbols.now format (HasAccount account capture.now) result }
 {
     match format_of(format) {
         Some(format) => list_as(alloc, account, format, image, capture, symbols),
-        None => Err(TextFault::Of(Fault::Range)),
+        None => Err(Fault::Range),
     }
 }
 
@@ -129,20 +129,20 @@ fn list_as(
     image: &Judged<'_>,
     capture: &[u8],
     symbols: &[u8],
-) -> Result<Written, TextFault>
+) -> Result<Written, Fault>
     ensures { IsTextBy image.now symbols.now (HasAccount account capture.now format) result }
 {
     let program = match image {
         Ok(program) => program,
-        Err(why) => return Err(TextFault::Of(Fault::NoProgram(*why))),
+        Err(why) => return Err(Fault::NoProgram(*why)),
     };
     let symbols = match symbols_of(alloc, symbols) {
         Ok(symbols) => symbols,
-        Err(why) => return Err(TextFault::Symbols(why)),
+        Err(why) => return Err(Fault::Symbols(why)),
     };
     match list_by(alloc, account, format, program, capture, symbols.as_ref()) {
         Ok(written) => Ok(written),
-        Err(_) => Err(TextFault::Of(Fault::Memory)),
+        Err(_) => Err(Fault::Memory),
     }
 }
 

@@ -1,6 +1,6 @@
 //! What logs cost, as a table.
 
-ghost use Rattle.std.specs.Prelude.{◌≡◌, ◌≤◌, IfErr, IfOk, length, option_map};
+ghost use Rattle.std.specs.Prelude.{◌≡◌, ◌≤◌, IfErr, IfOk, length};
 ghost use Rattle.legalpath.specs.Legal.{Legal};
 ghost use Rattle.legalpath.specs.ProgramLog.{program_log};
 ghost use Rattle.captures.specs.Bounds.{AreWithin, most_counted};
@@ -10,16 +10,16 @@ ghost use Rattle.message.specs.Version.{most_harts};
 ghost use Rattle.message.specs.declared.header.Version.TheVariants.{Two};
 ghost use Rattle.retire.specs.Log.{most_rows};
 ghost use Rattle.rvclass.specs.Fetch.{words_of};
-ghost use Rattle.ffi.specs.Encoded.{IsEncoded, IsMade, IsNoLegalText, IsRefusedLog, ReportsMeasure};
+ghost use Rattle.ffi.specs.Encoded.{IsEncoded, IsMade, IsRefusedLog, ReportsMeasure};
 ghost use Rattle.ffi.specs.Images.{OfPieces};
 ghost use Rattle.ffi.specs.declared.encoding.TheConstants.{VERSION_TWO};
-ghost use Rattle.ffi.specs.steps.Measuring.{AreMeasured, IsMeasured};
-ghost use Rattle.ffi.specs.steps.OfTexts.{AreTextsOf, IsTextOf};
+ghost use Rattle.ffi.specs.steps.Measuring.{AreMeasured};
+ghost use Rattle.ffi.specs.steps.OfTexts.{AreTextsOf};
 
-use crate::encoding::{LogPlace, VERSION_TWO, report_made, settings_of, text_between};
+use crate::encoding::{LogPlace, VERSION_TWO, report_made, settings_of};
 use crate::fault::Fault;
 use crate::images::{ImagePiece, Judged, judge_pieces};
-use crate::legal_texts::legal_events;
+use crate::legal_texts::log_at;
 use captures::{LogMeasures, Measures, write_measures_of};
 use payload::Mode;
 use retire::Event;
@@ -113,40 +113,17 @@ fn measure_each(
     ensures refused { IfErr result (λ why. IsRefusedLog program.now logs.now ends.now why.0 why.1) }
 {
     let mut measures = Vec::new(alloc);
-    let mut from = 0;
     for place in 0..ends.len() {
-        let end = ends[place];
-        let text = text_between(logs, from, end);
-        let own = match measure_text(alloc, program, text, period, mode) {
-            Ok(own) => own,
-            Err(fault) => return Err((place as u64, fault)),
+        let events = match log_at(alloc, program, logs, ends, place) {
+            Ok(events) => events,
+            Err(why) => return Err(why),
         };
-        match measures.push(own) {
+        match measures.push(count_events(program, events.as_slice(), period, mode)) {
             Ok(()) => {}
             Err(_) => return Err((place as u64, Fault::Memory)),
         }
-        from = end;
     }
     Ok(measures)
-}
-
-/// What the legal log of a text costs.
-fn measure_text(
-    alloc: Global,
-    program: &ProgramOver<'_>,
-    text: Option<&[u8]>,
-    period: u16,
-    mode: Mode,
-) -> Result<Measures, Fault>
-    requires { 1 ≤ period }
-    ensures measured { IfOk result (λ measures.
-        IsTextOf program.now (option_map (λ own. own.now) text.entry) (IsMeasured period mode measures)) }
-    ensures fault { IfErr result (IsNoLegalText program.now (option_map (λ own. own.now) text.entry)) }
-{
-    match legal_events(alloc, program, text) {
-        Ok(events) => Ok(count_events(program, events.as_slice(), period, mode)),
-        Err(why) => Err(why),
-    }
 }
 
 /// What events cost.

@@ -2,15 +2,13 @@
 
 ghost use Rattle.std.specs.Prelude.{◌≡◌};
 ghost use Rattle.frames.specs.Borrowed.{message_of};
-ghost use Rattle.ffi.specs.AuditedAll.{arrival_of, exchanged_count, exchanged_hart, expected_at, fate_number, found_by};
-ghost use Rattle.ffi.specs.AuditedAll.{row_reported, sent_place};
-ghost use Rattle.ffi.specs.AuditedAll.{sent_status, tally_reported};
+ghost use Rattle.ffi.specs.AuditedAll.{arrival_of, expected_at, row_reported, sent_place, sent_status, tally_reported};
 
 use crate::decoding::demux_status;
 use crate::dumping::message_status;
 use crate::headers::HeaderNumbers;
 use crate::status::MEMORY;
-use auditing::{Exchanged, Finding, HartRow, SentFault, Tally};
+use auditing::{Finding, HartRow, SentFault, Tally};
 use frames::BorrowedMessage;
 use message::DemuxFault;
 
@@ -164,35 +162,20 @@ pub struct PathEnd {
 pub(crate) fn row_reported(row: HartRow) -> HartRowNumbers
     ensures { result ≡ row_reported row }
 {
+    let tally = tally_reported(row.tally);
+    let (exchanged, exchanged_hart) = match row.exchanged {
+        Some(its) => (its.count, its.hart as u64),
+        None => (0, 0),
+    };
     HartRowNumbers {
-        tally: tally_reported(row.tally),
+        tally,
         strange: row.strange,
         extra: 0,
         runs: row.runs,
         longest: row.longest,
         latest: row.latest,
-        exchanged: exchanged_count(row.exchanged),
-        exchanged_hart: exchanged_hart(row.exchanged),
-    }
-}
-
-/// How many messages of a hart are another hart's, 0 where there is none.
-fn exchanged_count(exchanged: Option<Exchanged>) -> u64
-    ensures { result ≡ exchanged_count exchanged }
-{
-    match exchanged {
-        Some(its) => its.count,
-        None => 0,
-    }
-}
-
-/// The hart whose messages of another hart are, 0 where there is none.
-fn exchanged_hart(exchanged: Option<Exchanged>) -> u64
-    ensures { result ≡ exchanged_hart exchanged }
-{
-    match exchanged {
-        Some(its) => its.hart as u64,
-        None => 0,
+        exchanged,
+        exchanged_hart,
     }
 }
 
@@ -200,38 +183,19 @@ fn exchanged_hart(exchanged: Option<Exchanged>) -> u64
 pub(crate) fn arrival_of(offset: u64, message: BorrowedMessage<'_>, finding: Finding) -> Arrival
     ensures { result ≡ arrival_of offset (message_of message.entry) finding }
 {
+    let (fate, by) = match finding {
+        Finding::Stranger => (FATE_STRANGER, 0),
+        Finding::Changed => (FATE_CHANGED, 0),
+        Finding::Repeat => (FATE_REPEAT, 0),
+        Finding::Late { by } => (FATE_LATE, by),
+        Finding::InOrder { skips } => (FATE_IN_ORDER, skips),
+    };
     Arrival {
         number: message.number,
-        by: found_by(finding),
+        by,
         offset,
-        fate: fate_number(finding),
+        fate,
         hart: message.hart,
-    }
-}
-
-/// The number of a fate.
-fn fate_number(finding: Finding) -> u32
-    ensures { result ≡ fate_number finding }
-{
-    match finding {
-        Finding::Stranger => FATE_STRANGER,
-        Finding::Changed => FATE_CHANGED,
-        Finding::Repeat => FATE_REPEAT,
-        Finding::Late { .. } => FATE_LATE,
-        Finding::InOrder { .. } => FATE_IN_ORDER,
-    }
-}
-
-/// By how much a message is late, or how many numbers one in order skips; 0 for the others.
-fn found_by(finding: Finding) -> u64
-    ensures { result ≡ found_by finding }
-{
-    match finding {
-        Finding::Stranger => 0,
-        Finding::Changed => 0,
-        Finding::Repeat => 0,
-        Finding::Late { by } => by,
-        Finding::InOrder { skips } => skips,
     }
 }
 
@@ -239,20 +203,12 @@ fn found_by(finding: Finding) -> u64
 pub(crate) fn sent_place(why: SentFault) -> SentPlace
     ensures { result ≡ sent_place why }
 {
-    match why {
-        SentFault::Unread(message, _) => SentPlace {
-            message,
-            expected: 0,
-        },
-        SentFault::Misplaced(message, why) => SentPlace {
-            message,
-            expected: expected_at(why),
-        },
-        SentFault::Memory => SentPlace {
-            message: 0,
-            expected: 0,
-        },
-    }
+    let (message, expected) = match why {
+        SentFault::Unread(message, _) => (message, 0),
+        SentFault::Misplaced(message, why) => (message, expected_at(why)),
+        SentFault::Memory => (0, 0),
+    };
+    SentPlace { message, expected }
 }
 
 /// The number that is expected in place of a gap; 0 where there is none.
@@ -260,11 +216,8 @@ fn expected_at(why: DemuxFault) -> u64
     ensures { result ≡ expected_at why }
 {
     match why {
-        DemuxFault::Stranger => 0,
-        DemuxFault::Repeat => 0,
         DemuxFault::Gap { expected } => expected,
-        DemuxFault::AfterClose => 0,
-        DemuxFault::Packet(_) => 0,
+        _ => 0,
     }
 }
 

@@ -1,13 +1,12 @@
 //! What is left of a capture after any damage.
 
-ghost use Rattle.std.specs.Prelude.{◌≡◌};
 ghost use Rattle.ffi.specs.Images.{OfPieces};
 ghost use Rattle.ffi.specs.Salvaged.{IsSalvagedAs, IsSalvagedIn, ReportsSalvage};
 
 use crate::fault::Fault;
 use crate::images::{ImagePiece, Judged, judge_pieces};
 use crate::salvaged::{end_of_found, harts_asked, layout_of};
-use crate::texts::{TextEnd, TextFault, Written, report_text};
+use crate::texts::{TextEnd, Written, report_text};
 use message::{HartRange, NoProgress};
 use salvage_reports::{Layout, write_salvaged};
 use std::alloc::Global;
@@ -51,12 +50,12 @@ fn salvage_text(
     harts: u16,
     capture: &[u8],
     format: u32,
-) -> Result<Written, TextFault>
+) -> Result<Written, Fault>
     ensures { IsSalvagedIn image.now harts capture.now format result }
 {
     match layout_of(format) {
         Some(layout) => salvage_as(alloc, layout, image, harts_asked(harts), capture),
-        None => Err(TextFault::Of(Fault::Range)),
+        None => Err(Fault::Range),
     }
 }
 
@@ -67,12 +66,12 @@ fn salvage_as(
     image: &Judged<'_>,
     asked: Option<u16>,
     capture: &[u8],
-) -> Result<Written, TextFault>
+) -> Result<Written, Fault>
     ensures { IsSalvagedAs layout image.now asked capture.now result }
 {
     let program = match image {
         Ok(program) => program,
-        Err(why) => return Err(TextFault::Of(Fault::NoProgram(*why))),
+        Err(why) => return Err(Fault::NoProgram(*why)),
     };
     let mut text = Vec::new(alloc);
     let written = write_salvaged(
@@ -90,6 +89,6 @@ fn salvage_as(
             let end = end_of_found(&found);
             Ok(Written { text, end })
         }
-        Err(_) => Err(TextFault::Of(Fault::Memory)),
+        Err(_) => Err(Fault::Memory),
     }
 }

@@ -1,13 +1,10 @@
 //! Texts about captures that calls hand out, and how they end.
 
 ghost use Rattle.std.specs.Prelude.{◌≡◌};
-ghost use Rattle.ffi.specs.Statuses.{symbols_status};
-ghost use Rattle.ffi.specs.Texts.{ReportsText, first_unclosed, text_status};
+ghost use Rattle.ffi.specs.Texts.{ReportsText, first_unclosed};
 
 use crate::fault::Fault;
 use crate::handing::hand_out;
-use crate::status::{MEMORY, NO_SYMBOL, SYMBOLS_TOO_LARGE, UNEQUAL_COUNTS};
-use symbols::SymbolsFault;
 
 /// How a text about a capture ends.
 #[repr(C)]
@@ -35,44 +32,9 @@ pub struct Written {
     pub end: TextEnd,
 }
 
-/// Why a call gives no text.
-#[derive(Clone, Copy)]
-pub enum TextFault {
-    /// What other calls report too.
-    Of(Fault),
-    /// The symbols are not read.
-    Symbols(SymbolsFault),
-    /// There are more or fewer logs than harts.
-    Count,
-}
-
-impl TextFault {
-    /// The fault as a status.
-    pub(crate) fn status(self) -> u32
-        ensures { result ≡ text_status self }
-    {
-        match self {
-            TextFault::Of(why) => why.status(),
-            TextFault::Symbols(why) => symbols_status(why),
-            TextFault::Count => UNEQUAL_COUNTS,
-        }
-    }
-}
-
-/// Why symbols are not read.
-fn symbols_status(why: SymbolsFault) -> u32
-    ensures { result ≡ symbols_status why }
-{
-    match why {
-        SymbolsFault::TooLarge => SYMBOLS_TOO_LARGE,
-        SymbolsFault::NoSymbol => NO_SYMBOL,
-        SymbolsFault::Memory => MEMORY,
-    }
-}
-
 /// Hands out a text and how it ends, or reports why there is none.
 pub(crate) fn report_text(
-    written: Result<Written, TextFault>,
+    written: Result<Written, Fault>,
     buffer: &mut [u8],
     wanted: &mut u64,
     ended: &mut TextEnd,

@@ -20,7 +20,7 @@ const NUMBERS: &str =
 const BYTES: &str = "image payload capture sent received log text symbols bytes due";
 
 /// The number of decimal digits, or of hexadecimal ones after `0x`.
-pub(crate) fn number_of(case: &mut Case<'_>, text: &str) -> u64 {
+pub(crate) fn number_of(case: &Case, text: &str) -> u64 {
     match text.strip_prefix("0x") {
         Some(digits) => case.hex(digits),
         None => case.decimal(text),
@@ -28,7 +28,7 @@ pub(crate) fn number_of(case: &mut Case<'_>, text: &str) -> u64 {
 }
 
 /// The number that the argument with this name is, or the other number where there is none.
-pub(crate) fn number_or(case: &mut Case<'_>, name: &str, other: u64) -> u64 {
+pub(crate) fn number_or(case: &Case, name: &str, other: u64) -> u64 {
     match case.value(name) {
         Some(text) => number_of(case, text),
         None => other,
@@ -36,7 +36,7 @@ pub(crate) fn number_or(case: &mut Case<'_>, name: &str, other: u64) -> u64 {
 }
 
 /// Appends the bytes that an expression says.
-pub(crate) fn add_bytes(case: &mut Case<'_>, store: &Store, text: &str, bytes: &mut Vec<u8>) {
+pub(crate) fn add_bytes(case: &Case, store: &Store, text: &str, bytes: &mut Vec<u8>) {
     for one in text.split('+') {
         let (times, part) = case.times(one);
         let own = match store.get(part) {
@@ -52,7 +52,7 @@ pub(crate) fn add_bytes(case: &mut Case<'_>, store: &Store, text: &str, bytes: &
 }
 
 /// Sets the number of a field, `NAME=VALUE`.
-fn set_field(case: &mut Case<'_>, names: &str, record: &mut Record, word: &str) {
+fn set_field(case: &Case, names: &str, record: &mut Record, word: &str) {
     let (name, number) = word.split_once('=').unwrap_or((word, ""));
     let number = number_of(case, number);
     for (own, field) in names.split(' ').zip(record.iter_mut()) {
@@ -65,7 +65,7 @@ fn set_field(case: &mut Case<'_>, names: &str, record: &mut Record, word: &str) 
 }
 
 /// The struct that a text or its name says. What is no field of it is noted.
-fn struct_of<T: Fields>(case: &mut Case<'_>, store: &Store, text: &str) -> T {
+fn struct_of<T: Fields>(case: &Case, store: &Store, text: &str) -> T {
     let named = store.get(text).unwrap_or(text.as_bytes());
     let text = str::from_utf8(named).unwrap_or("");
     let begun = text.strip_prefix('{').unwrap_or("");
@@ -80,9 +80,9 @@ fn struct_of<T: Fields>(case: &mut Case<'_>, store: &Store, text: &str) -> T {
 }
 
 /// The state that a text or its name says, if all its fields are of such a state, which is then known. Else all are 0.
-fn state_of<T: Fields>(case: &Case<'_>, store: &Store, text: &str, is_known: &mut bool) -> T {
-    let mut own = case.again();
-    let state = struct_of(&mut own, store, text);
+fn state_of<T: Fields>(case: &Case, store: &Store, text: &str, is_known: &mut bool) -> T {
+    let own = case.over("");
+    let state = struct_of(&own, store, text);
     if own.is_failed() {
         return T::of(&NO_FIELDS);
     }
@@ -191,7 +191,7 @@ impl<'a> Given<'a> {
     }
 
     /// Adds elements, each an expression.
-    fn add_joined(&mut self, case: &mut Case<'_>, text: &str) {
+    fn add_joined(&mut self, case: &Case, text: &str) {
         for item in text.split(',') {
             let (times, part) = case.times(item);
             for _ in 0..times {
@@ -202,7 +202,7 @@ impl<'a> Given<'a> {
     }
 
     /// Takes other ends.
-    fn end_at(&mut self, case: &mut Case<'_>, text: &str) {
+    fn end_at(&mut self, case: &Case, text: &str) {
         self.ends.clear();
         for item in text.split(',') {
             let (times, part) = case.times(item);
@@ -216,7 +216,7 @@ impl<'a> Given<'a> {
     }
 
     /// Adds pieces: where each begins, and the name of its bytes.
-    fn add_pieces(&mut self, case: &mut Case<'_>, text: &str) {
+    fn add_pieces(&mut self, case: &Case, text: &str) {
         for item in text.split(',') {
             let (times, part) = case.times(item);
             if !text.is_empty() {
@@ -231,13 +231,13 @@ impl<'a> Given<'a> {
     }
 
     /// Adds the image as one piece.
-    fn add_image(&mut self, case: &mut Case<'_>) {
+    fn add_image(&mut self, case: &Case) {
         let (bytes, base) = (self.bytes("image"), number_or(case, "base", BASE));
         case.push(&mut self.pieces, ImagePiece { base, bytes });
     }
 
     /// Cuts the image.
-    fn add_cut(&mut self, case: &mut Case<'_>, text: &str) {
+    fn add_cut(&mut self, case: &Case, text: &str) {
         let at = number_of(case, text);
         let (image, base) = (self.bytes("image"), number_or(case, "base", BASE));
         let (front, rest) = image.split_at((at as usize).min(image.len()));
@@ -247,7 +247,7 @@ impl<'a> Given<'a> {
     }
 
     /// Adds events.
-    fn add_events(&mut self, case: &mut Case<'_>, text: &str) {
+    fn add_events(&mut self, case: &Case, text: &str) {
         for item in text.split(';') {
             let (times, part) = case.times(item);
             let event = struct_of(case, self.store, part);
@@ -258,7 +258,7 @@ impl<'a> Given<'a> {
     }
 
     /// Reads a state: that of an encoder, a decoder or a walk, or of each of these that has all its fields.
-    fn read_state(&mut self, case: &mut Case<'_>, text: &str) {
+    fn read_state(&mut self, case: &Case, text: &str) {
         let mut is_known = false;
         self.encoder = state_of(case, self.store, text, &mut is_known);
         self.hart_state = state_of(case, self.store, text, &mut is_known);
@@ -269,7 +269,7 @@ impl<'a> Given<'a> {
     }
 
     /// Reads an argument.
-    fn read(&mut self, case: &mut Case<'_>, word: &str) {
+    fn read(&mut self, case: &Case, word: &str) {
         let (name, text) = word.split_once('=').unwrap_or((word, ""));
         match name {
             "logs" | "payloads" => self.add_joined(case, text),
@@ -285,11 +285,11 @@ impl<'a> Given<'a> {
     }
 
     /// Reads the arguments.
-    pub(crate) fn read_all(&mut self, case: &mut Case<'_>) {
+    pub(crate) fn read_all(&mut self, case: &Case) {
         if case.value("pieces").is_none() && case.value("cut").is_none() {
             self.add_image(case);
         }
-        for word in case.text.split(' ') {
+        for word in case.text().split(' ') {
             if let Some((name, _)) = word.split_once('=') {
                 if !is_bytes(name) {
                     self.read(case, word);
@@ -305,8 +305,8 @@ fn is_bytes(name: &str) -> bool {
 }
 
 /// Makes the bytes that arguments say, and stores them under their own texts.
-pub(crate) fn store_bytes(case: &mut Case<'_>, store: &mut Store) {
-    for word in case.text.split(' ') {
+pub(crate) fn store_bytes(case: &Case, store: &mut Store) {
+    for word in case.text().split(' ') {
         let (name, text) = word.split_once('=').unwrap_or((word, ""));
         let is_known = store.get(text).is_some() && !text.contains(['+', '*']);
         if is_bytes(name) && !is_known {

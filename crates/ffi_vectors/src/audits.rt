@@ -7,7 +7,7 @@ use cases::Case;
 use ffi::{Arrival, ByteRun, HartRowNumbers, LostRun, PathEnd, SentPlace};
 
 /// Of all harts.
-pub(crate) fn audit_all(case: &mut Case<'_>, given: &Given<'_>) {
+pub(crate) fn audit_all(case: &Case, given: &Given<'_>) {
     let mut rows = case.filled(kept::<HartRowNumbers>(), given.room("rows"));
     let mut arrivals = case.filled(kept::<Arrival>(), given.room("arrivals"));
     let mut lost = case.filled(kept::<LostRun>(), given.room("lost"));

@@ -25,13 +25,13 @@ const COLUMNS: &str = "addr,itype,priv,cause,tval\n";
 const MARK: &[u8] = b"\xff\xffrvtrace2\0";
 
 /// Adds bytes.
-fn add(case: &mut Case<'_>, bytes: &mut Vec<u8>, more: &[u8]) {
+fn add(case: &Case, bytes: &mut Vec<u8>, more: &[u8]) {
     let done = bytes.extend_from_slice(more);
     case.note(done);
 }
 
 /// Adds a row of a log so often.
-fn add_row(case: &mut Case<'_>, bytes: &mut Vec<u8>, row: &str, times: u64) {
+fn add_row(case: &Case, bytes: &mut Vec<u8>, row: &str, times: u64) {
     for _ in 0..times {
         add(case, bytes, row.as_bytes());
         add(case, bytes, b"\n");
@@ -39,9 +39,9 @@ fn add_row(case: &mut Case<'_>, bytes: &mut Vec<u8>, row: &str, times: u64) {
 }
 
 /// Adds the text of a log.
-fn add_log(case: &mut Case<'_>, bytes: &mut Vec<u8>) {
+fn add_log(case: &Case, bytes: &mut Vec<u8>) {
     add(case, bytes, COLUMNS.as_bytes());
-    for one in case.text.split(' ') {
+    for one in case.text().split(' ') {
         let (times, row) = case.times(one);
         if !row.is_empty() {
             add_row(case, bytes, row, times);
@@ -50,7 +50,7 @@ fn add_log(case: &mut Case<'_>, bytes: &mut Vec<u8>) {
 }
 
 /// Adds a header.
-fn add_header(case: &mut Case<'_>, bytes: &mut Vec<u8>) {
+fn add_header(case: &Case, bytes: &mut Vec<u8>) {
     add(case, bytes, MARK);
     let mode = number_or(case, "mode", 0);
     case.push(bytes, (mode & 0xff) as u8);
@@ -61,7 +61,7 @@ fn add_header(case: &mut Case<'_>, bytes: &mut Vec<u8>) {
 }
 
 /// Adds a message.
-fn add_message(case: &mut Case<'_>, bytes: &mut Vec<u8>, hart: u64, number: u64, payload: &[u8]) {
+fn add_message(case: &Case, bytes: &mut Vec<u8>, hart: u64, number: u64, payload: &[u8]) {
     add(case, bytes, &low_16(hart).to_le_bytes());
     add(case, bytes, &number.to_le_bytes());
     case.push(bytes, payload.len().min(255) as u8);
@@ -69,8 +69,8 @@ fn add_message(case: &mut Case<'_>, bytes: &mut Vec<u8>, hart: u64, number: u64,
 }
 
 /// Adds the messages of arguments.
-fn add_sent(case: &mut Case<'_>, store: &Store, bytes: &mut Vec<u8>) {
-    for word in case.text.split_whitespace() {
+fn add_sent(case: &Case, store: &Store, bytes: &mut Vec<u8>) {
+    for word in case.text().split_whitespace() {
         let (hart, rest) = cut(word, '.');
         let (number, text) = cut(rest, ':');
         let (hart, number) = (number_of(case, hart), number_of(case, number));
@@ -93,13 +93,7 @@ struct Sending<'a> {
 }
 
 /// Adds a message of each hart.
-fn add_turn(
-    case: &mut Case<'_>,
-    bytes: &mut Vec<u8>,
-    sending: Sending<'_>,
-    number: u64,
-    payload: &[u8],
-) {
+fn add_turn(case: &Case, bytes: &mut Vec<u8>, sending: Sending<'_>, number: u64, payload: &[u8]) {
     for hart in sending.low..sending.high {
         add_message(case, bytes, hart, number, payload);
         add(case, bytes, sending.after);
@@ -107,7 +101,7 @@ fn add_turn(
 }
 
 /// Adds messages number by number.
-fn add_turns(case: &mut Case<'_>, store: &Store, sending: Sending<'_>, bytes: &mut Vec<u8>) {
+fn add_turns(case: &Case, store: &Store, sending: Sending<'_>, bytes: &mut Vec<u8>) {
     let mut number = number_or(case, "from", 0);
     for one in case.named("payloads").split(',') {
         let (times, text) = case.times(one);
@@ -121,7 +115,7 @@ fn add_turns(case: &mut Case<'_>, store: &Store, sending: Sending<'_>, bytes: &m
 }
 
 /// The harts that send messages.
-fn harts_of(case: &mut Case<'_>) -> (u64, u64) {
+fn harts_of(case: &Case) -> (u64, u64) {
     let hart = number_or(case, "hart", 0);
     match case.named("harts").split_once("..") {
         Some((low, high)) => (number_of(case, low), number_of(case, high)),
@@ -130,7 +124,7 @@ fn harts_of(case: &mut Case<'_>) -> (u64, u64) {
 }
 
 /// Adds the messages of harts.
-fn add_messages(case: &mut Case<'_>, store: &Store, bytes: &mut Vec<u8>) {
+fn add_messages(case: &Case, store: &Store, bytes: &mut Vec<u8>) {
     let mut after = Vec::new(case.alloc);
     let text = case.named("after");
     add_bytes(case, store, text, &mut after);
@@ -153,13 +147,13 @@ fn add_messages(case: &mut Case<'_>, store: &Store, bytes: &mut Vec<u8>) {
 }
 
 /// Adds numbered lines.
-fn add_count(case: &mut Case<'_>, bytes: &mut Vec<u8>) {
-    let text = case.text.split_once(" text=").unwrap_or(("", "")).1;
+fn add_count(case: &Case, bytes: &mut Vec<u8>) {
+    let text = case.text().split_once(" text=").unwrap_or(("", "")).1;
     let (before, after) = text.split_once('%').unwrap_or((text, ""));
     let (form, rest) = after.split_at_checked(1).unwrap_or(("", ""));
     let mut number = number_or(case, "from", 0);
     let step = number_or(case, "step", 1);
-    let mut lines = case.again();
+    let lines = case.over("");
     for _ in 0..number_or(case, "times", 0) {
         lines.put(before);
         match form {
@@ -172,7 +166,7 @@ fn add_count(case: &mut Case<'_>, bytes: &mut Vec<u8>) {
         number = number.wrapping_add(step);
     }
     case.join(&lines);
-    add(case, bytes, lines.came.as_bytes());
+    add(case, bytes, lines.taken().as_bytes());
 }
 
 /// Whether a verb makes a buffer.
@@ -184,9 +178,9 @@ pub(crate) fn builds(verb: &str) -> bool {
 }
 
 /// Plays a verb that makes a buffer.
-pub(crate) fn build(case: &mut Case<'_>, store: &mut Store, verb: &str) {
+pub(crate) fn build(case: &Case, store: &mut Store, verb: &str) {
     let name = case.word();
-    let rest = case.text;
+    let rest = case.text();
     let mut bytes = if matches!(verb, "add" | "line" | "sent" | "messages" | "count") {
         store.take(case.alloc, name)
     } else {

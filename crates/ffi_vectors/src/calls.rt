@@ -8,7 +8,7 @@ use crate::{audits, looking, stepping};
 use cases::{Case, Verbs};
 
 /// Makes the call that a verb names.
-fn call(case: &mut Case<'_>, verb: &str, given: &Given<'_>) {
+fn call(case: &Case, verb: &str, given: &Given<'_>) {
     match verb {
         "check" => looking::check(case, given),
         "check_events" => looking::check_events(case, given),
@@ -26,12 +26,14 @@ fn call(case: &mut Case<'_>, verb: &str, given: &Given<'_>) {
 }
 
 /// Stores the state that a call left, under its name: that of a new one, or the one that it had.
-fn store_state(case: &mut Case<'_>, store: &mut Store) {
+fn store_state(case: &Case, store: &mut Store) {
     let name = case.value("new").unwrap_or(case.named("state"));
     if name.is_empty() || name.starts_with('{') {
         return;
     }
-    if let Some((_, state)) = case.came.rsplit_once("state=") {
+    let said = case.taken();
+    case.put(said.as_str());
+    if let Some((_, state)) = said.rsplit_once("state=") {
         let bytes = Vec::from_slice(case.alloc, state.as_bytes());
         match bytes {
             Ok(bytes) => store.put(case, name, bytes),
@@ -41,21 +43,23 @@ fn store_state(case: &mut Case<'_>, store: &mut Store) {
 }
 
 /// Makes a call so often, each time with the same state. Appends what it said where that is something else.
-fn call_times(case: &mut Case<'_>, store: &Store, verb: &str, times: u64) {
-    let mut given = Given::new(case.alloc, store, case.text);
+fn call_times(case: &Case, store: &Store, verb: &str, times: u64) {
+    let mut given = Given::new(case.alloc, store, case.text());
     given.read_all(case);
-    let mut first = case.again();
-    call(&mut first, verb, &given);
-    case.put_first(&first);
+    let own = case.again();
+    call(&own, verb, &given);
+    case.join(&own);
+    let first = own.taken();
+    case.put(first.as_str());
     for _ in 1..times {
-        let mut again = case.again();
-        call(&mut again, verb, &given);
-        case.put_other("another time", &again, first.came.as_str());
+        let again = case.again();
+        call(&again, verb, &given);
+        case.put_other("another time", &again, first.as_str());
     }
 }
 
 impl Verbs for Store {
-    fn answer(&mut self, case: &mut Case<'_>) {
+    fn answer(&mut self, case: &Case) {
         let word = case.word();
         let (times, verb) = case.times(word);
         if builds(verb) {

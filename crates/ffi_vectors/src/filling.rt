@@ -183,7 +183,7 @@ fn last_lines(text: &str, count: usize) -> &str {
 }
 
 /// Appends a text, or its last lines.
-fn put_lines(case: &mut Case<'_>, given: &Given<'_>, bytes: &[u8]) {
+fn put_lines(case: &Case, given: &Given<'_>, bytes: &[u8]) {
     let mut text = str::from_utf8(bytes).unwrap_or("no text");
     if let Some(count) = given.size("tail").or(given.size("last")) {
         text = last_lines(text, count);
@@ -195,7 +195,7 @@ fn put_lines(case: &mut Case<'_>, given: &Given<'_>, bytes: &[u8]) {
 }
 
 /// Appends what was handed out: that it is what was due, its last lines, all of it, or its digits.
-fn put_handed(case: &mut Case<'_>, verb: &str, given: &Given<'_>, bytes: &[u8]) {
+fn put_handed(case: &Case, verb: &str, given: &Given<'_>, bytes: &[u8]) {
     if given.some_bytes("due") == Some(bytes) {
         case.put_word("due");
     } else if !is_binary(verb) {
@@ -212,7 +212,7 @@ fn is_filled(bytes: &[u8]) -> bool {
 }
 
 /// Appends what a call said, and what it handed out in a buffer.
-fn put_said(case: &mut Case<'_>, verb: &str, given: &Given<'_>, said: &Said, buffer: &[u8]) {
+fn put_said(case: &Case, verb: &str, given: &Given<'_>, said: &Said, buffer: &[u8]) {
     let count = if said.status == 0 {
         said.size().min(buffer.len())
     } else {
@@ -226,12 +226,7 @@ fn put_said(case: &mut Case<'_>, verb: &str, given: &Given<'_>, said: &Said, buf
 }
 
 /// Makes the call that a verb names with a buffer of so many bytes, and appends what it said.
-pub(crate) fn fill(
-    case: &mut Case<'_>,
-    verb: &str,
-    given: &Given<'_>,
-    room: usize,
-) -> Option<Said> {
+pub(crate) fn fill(case: &Case, verb: &str, given: &Given<'_>, room: usize) -> Option<Said> {
     let mut buffer = case.filled(FILL, room);
     let mut ends = case.filled(kept::<HartEnd>(), given.room("places"));
     let said = call_any(verb, given, &mut buffer, &mut ends)?;

@@ -7,12 +7,12 @@ use cases::Case;
 use ffi::{HeaderNumbers, MessageNumbers, PacketNumbers};
 
 /// Appends a status and a row.
-fn put_row(case: &mut Case<'_>, status: u32, row: u64) {
+fn put_row(case: &Case, status: u32, row: u64) {
     put_all(case, "status row", &[u64::from(status), row]);
 }
 
 /// Which log is legal.
-pub(crate) fn check(case: &mut Case<'_>, given: &Given<'_>) {
+pub(crate) fn check(case: &Case, given: &Given<'_>) {
     let mut row = KEPT;
     let log = given.bytes("log");
     let status = ffi::tracebench_check(given.alloc, &given.pieces, log, &mut row);
@@ -20,14 +20,14 @@ pub(crate) fn check(case: &mut Case<'_>, given: &Given<'_>) {
 }
 
 /// Which events are legal.
-pub(crate) fn check_events(case: &mut Case<'_>, given: &Given<'_>) {
+pub(crate) fn check_events(case: &Case, given: &Given<'_>) {
     let mut row = KEPT;
     let status = ffi::tracebench_check_events(given.alloc, &given.pieces, &given.events, &mut row);
     put_row(case, status, row);
 }
 
 /// The packet of a payload.
-pub(crate) fn unpack(case: &mut Case<'_>, given: &Given<'_>) {
+pub(crate) fn unpack(case: &Case, given: &Given<'_>) {
     let mut packet = kept::<PacketNumbers>();
     let status = ffi::tracebench_unpack(given.bytes("payload"), &mut packet);
     put_row(case, status, KEPT);
@@ -35,7 +35,7 @@ pub(crate) fn unpack(case: &mut Case<'_>, given: &Given<'_>) {
 }
 
 /// The header at the start of bytes.
-pub(crate) fn read_header(case: &mut Case<'_>, given: &Given<'_>) {
+pub(crate) fn read_header(case: &Case, given: &Given<'_>) {
     let mut taken = KEPT;
     let mut header = kept::<HeaderNumbers>();
     let status = ffi::tracebench_read_header(given.bytes("bytes"), &mut header, &mut taken);
@@ -44,7 +44,7 @@ pub(crate) fn read_header(case: &mut Case<'_>, given: &Given<'_>) {
 }
 
 /// The message at the start of bytes.
-pub(crate) fn read_message(case: &mut Case<'_>, given: &Given<'_>) {
+pub(crate) fn read_message(case: &Case, given: &Given<'_>) {
     let mut taken = KEPT;
     let mut message = MessageNumbers {
         number: KEPT,

@@ -90,7 +90,7 @@ fn call_for_events(verb: &str, given: &Given<'_>, events: &mut [EventNumbers]) -
 /// Appends what a call said, the elements that it wrote, and the state if it is another one. Where only some elements
 /// are shown, the state is not.
 fn put_said<S: Fields, T: Fields>(
-    case: &mut Case<'_>,
+    case: &Case,
     (given, name): (&Given<'_>, &str),
     said: &Said,
     before: &S,
@@ -105,7 +105,7 @@ fn put_said<S: Fields, T: Fields>(
 }
 
 /// Appends the state after a call, if it is another one.
-fn put_changed<S: Fields>(case: &mut Case<'_>, before: &S, after: &Record) {
+fn put_changed<S: Fields>(case: &Case, before: &S, after: &Record) {
     if before.record() != *after {
         put_state::<S>(case, after);
     }
@@ -113,7 +113,7 @@ fn put_changed<S: Fields>(case: &mut Case<'_>, before: &S, after: &Record) {
 
 /// Makes the call that a verb names with a buffer of so many packets, and appends what it said.
 pub(crate) fn fill_packets(
-    case: &mut Case<'_>,
+    case: &Case,
     verb: &str,
     given: &Given<'_>,
     room: usize,
@@ -125,12 +125,7 @@ pub(crate) fn fill_packets(
 }
 
 /// Makes the call that a verb names with a buffer of so many events, and appends what it said.
-pub(crate) fn fill_events(
-    case: &mut Case<'_>,
-    verb: &str,
-    given: &Given<'_>,
-    room: usize,
-) -> Option<Said> {
+pub(crate) fn fill_events(case: &Case, verb: &str, given: &Given<'_>, room: usize) -> Option<Said> {
     let mut events = case.filled(kept::<EventNumbers>(), room);
     let said = call_for_events(verb, given, &mut events);
     put_said(case, (given, "events"), &said, &given.hart_state, &events);
@@ -138,22 +133,22 @@ pub(crate) fn fill_events(
 }
 
 /// Pushes events at once, and by a call for each: `same`, the status and how many are taken where both say the same.
-pub(crate) fn push_both(case: &mut Case<'_>, given: &Given<'_>) {
+pub(crate) fn push_both(case: &Case, given: &Given<'_>) {
     let room = given.room("room");
-    let mut once = case.again();
-    let said = fill_packets(&mut once, "push_all", given, room);
-    let mut each = case.again();
-    let _ = fill_packets(&mut each, "push_each", given, room);
+    let once = case.again();
+    let said = fill_packets(&once, "push_all", given, room);
+    let each = case.again();
+    let _ = fill_packets(&each, "push_each", given, room);
     if let Some(said) = said {
         said.put(case, true);
     }
     case.put_word("same");
     case.join(&once);
-    case.put_other("by a call for each", &each, once.came.as_str());
+    case.put_other("by a call for each", &each, once.taken().as_str());
 }
 
 /// A new encoder, and the packet that opens its trace.
-pub(crate) fn encoder(case: &mut Case<'_>, given: &Given<'_>) {
+pub(crate) fn encoder(case: &Case, given: &Given<'_>) {
     let mut state = kept::<EncoderNumbers>();
     let mut opening = kept::<PacketNumbers>();
     let (period, mode) = (given.low_16("period"), given.low_32("mode"));
@@ -164,7 +159,7 @@ pub(crate) fn encoder(case: &mut Case<'_>, given: &Given<'_>) {
 }
 
 /// A new decoder.
-pub(crate) fn decoder(case: &mut Case<'_>) {
+pub(crate) fn decoder(case: &Case) {
     // Each field of the decoder holds another number before.
     let mut hart = kept::<HartNumbers>();
     hart.expected = 0;
@@ -173,7 +168,7 @@ pub(crate) fn decoder(case: &mut Case<'_>) {
 }
 
 /// Lets a hart go on at a number.
-pub(crate) fn resume(case: &mut Case<'_>, given: &Given<'_>) {
+pub(crate) fn resume(case: &Case, given: &Given<'_>) {
     let mut hart = given.hart_state;
     let status = ffi::tracebench_resume(&mut hart, given.number("number"), given.low_32("mode"));
     put_all(case, "status", &[u64::from(status)]);
@@ -181,7 +176,7 @@ pub(crate) fn resume(case: &mut Case<'_>, given: &Given<'_>) {
 }
 
 /// The next events of a hart, as many as the buffer has room for.
-pub(crate) fn generate_events(case: &mut Case<'_>, given: &Given<'_>) {
+pub(crate) fn generate_events(case: &Case, given: &Given<'_>) {
     let mut walk = given.walk;
     let mut events = case.filled(kept::<EventNumbers>(), given.room("room"));
     let (alloc, pieces, state) = (given.alloc, &given.pieces, &mut walk);

@@ -32,7 +32,7 @@ impl Store {
     }
 
     /// Gives bytes a name.
-    pub(crate) fn put(&mut self, case: &mut Case<'_>, name: &str, bytes: Vec<u8>) {
+    pub(crate) fn put(&mut self, case: &Case, name: &str, bytes: Vec<u8>) {
         match String::from_str(case.alloc, name) {
             Ok(name) => {
                 if self.buffers.insert(name, bytes).is_err() {

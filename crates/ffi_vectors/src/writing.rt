@@ -53,7 +53,7 @@ impl Said {
     }
 
     /// Appends what a call said, with `tail` without how much it has to hand out.
-    pub(crate) fn put(&self, case: &mut Case<'_>, tail: bool) {
+    pub(crate) fn put(&self, case: &Case, tail: bool) {
         put_all(case, "status", &[self.status]);
         if !tail {
             put_all(case, self.counted, &[self.count]);
@@ -66,18 +66,18 @@ impl Said {
 const HEXADECIMAL: u64 = 1 << 24;
 
 /// Appends a number under a name.
-fn put_number(case: &mut Case<'_>, name: &str, number: u64) {
+fn put_number(case: &Case, name: &str, number: u64) {
     case.put(name);
-    let done = if number < HEXADECIMAL {
-        write!(case.came, "={number}")
+    if number < HEXADECIMAL {
+        case.put_filled("=#", &[number]);
     } else {
-        write!(case.came, "=0x{number:x}")
-    };
-    case.note(done);
+        case.put("=0x");
+        case.put_hex(number);
+    }
 }
 
 /// Appends the numbers that a call wrote, by their names.
-pub(crate) fn put_all(case: &mut Case<'_>, names: &str, numbers: &[u64]) {
+pub(crate) fn put_all(case: &Case, names: &str, numbers: &[u64]) {
     for (name, number) in names.split(' ').zip(numbers) {
         let is_kept = *number == KEPT
             || *number == u64::from(KEPT_32)
@@ -90,7 +90,7 @@ pub(crate) fn put_all(case: &mut Case<'_>, names: &str, numbers: &[u64]) {
 }
 
 /// Appends a struct's numbers that are not 0, by their names.
-fn put_record(case: &mut Case<'_>, names: &str, record: &Record) {
+fn put_record(case: &Case, names: &str, record: &Record) {
     let mut is_first = true;
     case.put("{");
     for (name, number) in names.split(' ').zip(record) {
@@ -106,7 +106,7 @@ fn put_record(case: &mut Case<'_>, names: &str, record: &Record) {
 }
 
 /// Appends the state after a call.
-pub(crate) fn put_state<T: Fields>(case: &mut Case<'_>, record: &Record) {
+pub(crate) fn put_state<T: Fields>(case: &Case, record: &Record) {
     case.put_word("state=");
     put_record(case, T::NAMES, record);
 }
@@ -142,7 +142,7 @@ fn equal_ones<T: Fields>(items: &[T], from: usize, steps: bool, first: &Record) 
 }
 
 /// Appends elements, of which equal ones in a row are counted. Those that no call wrote are `-`.
-fn put_items<T: Fields>(case: &mut Case<'_>, items: &[T], steps: bool) {
+fn put_items<T: Fields>(case: &Case, items: &[T], steps: bool) {
     let kept = kept::<T>().record();
     let mut begins: usize = 0;
     for place in 0..items.len() {
@@ -180,7 +180,7 @@ fn written<T: Fields>(items: &[T]) -> usize {
 
 /// Appends the elements of a buffer up to the last that a call wrote, under a name, if there is one: each, or by steps
 /// the first, and by how much each further one differs from the one before.
-pub(crate) fn put_list<T: Fields>(case: &mut Case<'_>, name: &str, items: &[T], steps: bool) {
+pub(crate) fn put_list<T: Fields>(case: &Case, name: &str, items: &[T], steps: bool) {
     let items = items.get(..written(items)).unwrap_or(items);
     if items.is_empty() {
         return;

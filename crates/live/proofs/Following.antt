@@ -1,6 +1,6 @@
 -- What is held of the messages of SENT that were read, by all of them.
-use Rattle.std.proofs.Common.{◌≡◌, ◌⊎◌, inl, inr, ℕ, zero, suc, ◌+◌, ◌-◌, ◌^◌, ◌<◌, ◌≤◌, true, ltb, not, ◌&&◌, List, [], ◌∷◌, ◌++◌, Some, None}
-use Rattle.std.proofs.Common.{drop, length, option_map, slice_get, take, sym, ap, subst, ◌∙◌, arith}
+use Rattle.std.proofs.Common.{◌≡◌, ◌⊎◌, inl, inr, ℕ, zero, suc, ◌+◌, ◌-◌, ◌^◌, ◌<◌, ◌≤◌, Bool, true, false, cond, ltb, not, ◌&&◌, List, [], ◌∷◌, ◌++◌, Some, None}
+use Rattle.std.proofs.Common.{drop, length, option_map, slice_get, take, sym, ap, ap₂, subst, ◌∙◌, arith}
 use Rattle.std.proofs.lemmas.Bool.{and_parts, cases_lt, ltb-true}
 use Rattle.std.proofs.lemmas.List.{append-nil, append_assoc, drop_all, length-take, take-append-drop, take_all}
 use Rattle.std.proofs.lemmas.Option.{slice_get_within}
@@ -9,10 +9,12 @@ use Rattle.message.specs.OfHart.{of_hart}
 use Rattle.message.specs.declared.fault.DemuxFault.{DemuxFault}
 use Rattle.message.specs.declared.message.Message.{Message}
 use Rattle.auditing.specs.Sent.{AreInTurn, misplaced}
-use Rattle.live.specs.Following.{AllWanted, Audited, BeginsMisplaced, IsAudited, IsCut, IsLookFault, IsLooked, Left, Reads, left_after, left_with}
+use Rattle.live.specs.Following.{AllWanted, Audited, BeginsMisplaced, EndsWell, FailsAt, IsAudited, IsCut, IsLookFault, IsLooked, Left}
+use Rattle.live.specs.Following.{Reads, WasAsked, asked_for, left_after, left_with, looked_to}
 use Rattle.live.specs.Holding.{Holding}
 use Rattle.live.specs.Holds.{Holds, IsReadFault, is_wanted}
 use Rattle.live.specs.View.{standing_of}
+use Rattle.live.specs.declared.fault.LookFault.{LookFault}
 use Rattle.live.specs.declared.fault.LookFault.TheVariants as look
 use Rattle.live.specs.declared.fault.ReadFault.{ReadFault}
 use Rattle.live.specs.declared.fault.ReadFault.TheVariants as fault
@@ -34,6 +36,32 @@ placed_at harts before (first ∷ messages) turn zero message is =
 placed_at harts before (first ∷ messages) turn (suc k) message is =
     ap (λ l. misplaced harts l message) (sym (append_assoc before (first ∷ []) (take k messages)))
     ∙ placed_at harts (before ++ first ∷ []) messages turn.1 k message is
+
+-- So many were read that were asked for.
+pub asked_read : (all : Audited) (read : ℕ) → read ≤ length all.sent → WasAsked all read read
+asked_read all read within = record { count = omega (arith, within); ended = λ past. absurd (omega (arith, within, past)) }
+
+-- What is not wanted is not asked for, and what is wanted is.
+asks_none : (harts window front hart number : ℕ) (sent messages : List Message)
+    → is_wanted harts window sent front hart number ≡ false → asked_for harts window front hart number sent messages ≡ 0
+asks_none harts window front hart number sent [] none = ap (λ b. cond b 1 0) none
+asks_none harts window front hart number sent (message ∷ messages) none =
+    ap (λ b. cond b (1 + asked_for harts window front hart number (sent ++ message ∷ []) messages) 0) none
+
+asks_some : (harts window front hart number : ℕ) (sent messages : List Message)
+    → is_wanted harts window sent front hart number ≡ true
+    → 1 ≤ asked_for harts window front hart number sent messages
+asks_some harts window front hart number sent messages wants = by messages
+  where
+    some : (b : Bool) → b ≡ true → (n : ℕ) → 1 ≤ cond b (1 + n) 0
+    some true is n = omega arith
+    some false is n = cc
+
+    by : (messages : List Message) → 1 ≤ asked_for harts window front hart number sent messages
+    by [] = some (is_wanted harts window sent front hart number) wants 0
+    by (message ∷ messages) =
+        some (is_wanted harts window sent front hart number) wants
+        (asked_for harts window front hart number (sent ++ message ∷ []) messages)
 
 -- The same messages are left.
 messages_of : {left other : Left} → left ≡ other → left.messages ≡ other.messages
@@ -198,15 +226,52 @@ module _ (all : Audited) (right : IsAudited all) (read : ℕ) (came : List Messa
           ∙ ap (λ w. is_wanted (length own.harts) w some front hart number) (sym reads.window)
           ∙ is
 
+  -- What is wanted is asked for: SENT's next message, or, at its end, none.
+  module _ (hart number : ℕ) (wanted : is_wanted (length own.harts) own.window some front hart number ≡ true) where
+    wants : is_wanted all.harts all.window some front hart number ≡ true
+    wants =
+        ap (λ n. is_wanted n all.window some front hart number) (sym reads.harts)
+        ∙ ap (λ w. is_wanted (length own.harts) w some front hart number) (sym reads.window)
+        ∙ wanted
+
+    pub asked_some : read < looked_to all front hart number read
+    asked_some =
+        let some_asked = asks_some all.harts all.window front hart number some more wants in
+        omega (arith, some_asked)
+
+    pub asked_next : read + 1 ≤ length all.sent
+        → looked_to all front hart number read ≡ looked_to all front hart number (read + 1)
+    asked_next less =
+        let found = slice_get-some all.sent read (omega (arith, less)) in
+        let one : suc read ≡ read + 1 = omega arith in
+        let asks =
+        ap (asked_for all.harts all.window front hart number some) (drop_from all.sent read found.0 found.1)
+        ∙ ap (λ b. cond b (1 + asked_for all.harts all.window front hart number (some ++ found.0 ∷ []) (drop (suc read) all.sent)) 0)
+        wants
+        ∙ ap (λ n. 1 + n)
+        (ap₂ (asked_for all.harts all.window front hart number)
+        (sym (take_to all.sent read found.0 found.1) ∙ ap (λ n. take n all.sent) one)
+        (ap (λ n. drop n all.sent) one)) in
+        omega (arith, asks)
+
+    pub asked_end : read ≡ length all.sent → looked_to all front hart number read ≡ read + 1
+    asked_end end =
+        let asks =
+        ap (asked_for all.harts all.window front hart number some) (drop_all read all.sent (omega (arith, end)))
+        ∙ ap (λ b. cond b 1 0) wants in
+        omega (arith, asks)
+
   -- Where SENT is at its end, nothing follows.
   pub looked_end : (first hart number : ℕ) (after : Left) (new : Holding) → Reads all read came front new after
       → read ≡ length all.sent → first ≤ read → AllWanted all first read front hart number
+      → looked_to all front hart number first ≡ read + 1 → EndsWell all
       → IsLooked all first came front hart number new after
-  looked_end first hart number after new same end more wanted = record {
+  looked_end first hart number after new same end more wanted asked well = record {
     read = read;
     reads = same;
     more = more;
     wanted = wanted;
+    was = record { count = omega (arith, asked, end); ended = λ past. well };
     settled =
         ap (λ l. standing_of all.window l front hart number) (take_all read all.sent (omega (arith, end)));
   }
@@ -215,15 +280,118 @@ module _ (all : Audited) (right : IsAudited all) (read : ℕ) (came : List Messa
   pub looked_at : (first hart number : ℕ)
       → standing_of own.window (some ++ more) front hart number ≡ standing_of own.window some front hart number
       → first ≤ read → AllWanted all first read front hart number
+      → looked_to all front hart number first ≡ looked_to all front hart number read
+      → is_wanted (length own.harts) own.window some front hart number ≡ false
       → IsLooked all first came front hart number own left
-  looked_at first hart number same later wanted = record {
+  looked_at first hart number same later wanted asked none = record {
     read = read;
     reads = reads;
     more = later;
     wanted = wanted;
+    was = was_read (asked ∙ asked_none);
     settled =
         ap (λ w. standing_of w some front hart number) (sym reads.window)
         ∙ sym same
         ∙ ap (λ l. standing_of own.window l front hart number) parts
         ∙ ap (λ w. standing_of w all.sent front hart number) reads.window;
   }
+    where
+      asked_none : looked_to all front hart number read ≡ read
+      asked_none =
+          let asks =
+          asks_none all.harts all.window front hart number some more
+          (ap (λ n. is_wanted n all.window some front hart number) (sym reads.harts)
+          ∙ ap (λ w. is_wanted (length own.harts) w some front hart number) (sym reads.window) ∙ none) in
+          omega (arith, asks)
+
+      was_read : {asked : ℕ} → asked ≡ read → WasAsked all asked read
+      was_read is = subst (λ n. WasAsked all n read) (sym is) (asked_read all read reads.within)
+
+-- SENT was asked as often, where so many messages of it were read before.
+module _ (all : Audited) (asked read : ℕ) (was : WasAsked all asked read) (front hart number : ℕ) where
+  asks_same : asked_for all.harts all.window front hart number (take asked all.sent) (drop asked all.sent)
+      ≡ asked_for all.harts all.window front hart number (take read all.sent) (drop read all.sent)
+  asks_same = go (cases_lt (length all.sent) asked)
+    where
+      go : (length all.sent < asked) ⊎ (asked ≤ length all.sent)
+          → asked_for all.harts all.window front hart number (take asked all.sent) (drop asked all.sent)
+          ≡ asked_for all.harts all.window front hart number (take read all.sent) (drop read all.sent)
+      go (inl past) =
+          let now = was.count in
+          let end : length all.sent ≤ read = omega (arith, now, past) in
+          ap₂ (asked_for all.harts all.window front hart number)
+          (take_all asked all.sent (omega (arith, past)) ∙ sym (take_all read all.sent end))
+          (drop_all asked all.sent (omega (arith, past)) ∙ sym (drop_all read all.sent end))
+      go (inr within) =
+          let now = was.count in
+          let same : asked ≡ read = omega (arith, now, within) in
+          ap (λ n. asked_for all.harts all.window front hart number (take n all.sent) (drop n all.sent)) same
+
+  pub looked_again : (to : ℕ) → WasAsked all (looked_to all front hart number read) to
+      → WasAsked all (looked_to all front hart number asked) to
+  looked_again to new = record {
+    count = let before = was.count in let same = asks_same in let after = new.count in omega (arith, before, same, after);
+    ended = λ past. go past (cases_lt (length all.sent) asked);
+  }
+    where
+      go : length all.sent < looked_to all front hart number asked
+          → (length all.sent < asked) ⊎ (asked ≤ length all.sent) → EndsWell all
+      go past (inl ended) = was.ended ended
+      go past (inr within) =
+          new.ended (let before = was.count in let same = asks_same in omega (arith, before, same, past, within))
+
+  pub fails_again : (why : LookFault) (left : Left) → FailsAt all read (looked_to all front hart number read) why left
+      → FailsAt all asked (looked_to all front hart number asked) why left
+  fails_again why left fails = record {
+    asked = fails.asked + (asked - read);
+    more = let more = fails.more in let before = was.count in omega (arith, more, before);
+    less = let less = fails.less in let before = was.count in let same = asks_same in omega (arith, less, before, same);
+    read = fails.read;
+    was = record {
+      count =
+          let own = fails.was.count in let before = was.count in let more = fails.more in omega (arith, own, before, more);
+      ended = λ past. go past (cases_lt (length all.sent) asked);
+    };
+    fault = fails.fault;
+    remains = fails.remains;
+  }
+    where
+      go : length all.sent < fails.asked + (asked - read)
+          → (length all.sent < asked) ⊎ (asked ≤ length all.sent) → EndsWell all
+      go past (inl ended) = was.ended ended
+      go past (inr within) =
+          fails.was.ended (let before = was.count in omega (arith, before, past, within))
+
+-- A message more is asked for, or none.
+pub looked_later : (all : Audited) (front hart number asked : ℕ) → asked ≤ looked_to all front hart number asked
+looked_later all front hart number asked = omega arith
+
+-- It fails where it was asked more often before, or up to where it is asked more often.
+abbrev pub fails_later : (all : Audited) (from later to : ℕ) (why : LookFault) (left : Left) → from ≤ later
+    → FailsAt all later to why left → FailsAt all from to why left
+fails_later all from later to why left after fails = record {
+  asked = fails.asked;
+  more = let own = fails.more in omega (arith, own, after);
+  less = fails.less;
+  read = fails.read;
+  was = fails.was;
+  fault = fails.fault;
+  remains = fails.remains;
+}
+
+abbrev pub fails_sooner : (all : Audited) (from sooner to : ℕ) (why : LookFault) (left : Left) → sooner ≤ to
+    → FailsAt all from sooner why left → FailsAt all from to why left
+fails_sooner all from sooner to why left before fails = record {
+  asked = fails.asked;
+  more = fails.more;
+  less = let own = fails.less in omega (arith, own, before);
+  read = fails.read;
+  was = fails.was;
+  fault = fails.fault;
+  remains = fails.remains;
+}
+
+pub fails_either : (all : Audited) (from once twice : ℕ) (is : Bool) (why : LookFault) (left : Left) → once ≤ twice
+    → FailsAt all from once why left → FailsAt all from (cond is twice once) why left
+fails_either all from once twice true why left before fails = fails_sooner all from once twice why left before fails
+fails_either all from once twice false why left before fails = fails

@@ -17,6 +17,7 @@ pub mod ReadingOn
 pub mod Judges
 pub mod Settling
 pub mod Ending
+pub mod Calls
 pub mod Meets
 pub mod Telling
 pub mod Finishing
@@ -32,3 +33,10 @@ pub mod ReceivedWhole
 pub mod ReceivedSeen
 pub mod ReceivedStands
 pub mod ReceivedNext
+pub mod Chains
+pub mod HartLines
+pub mod GivenLines
+pub mod WholeLines
+pub mod NoStrangers
+pub mod LiveWhole
+pub mod RowLines

@@ -1,16 +1,17 @@
 -- SENT is read on, and the front goes on as it has to.
-use Rattle.std.proofs.Common.{◌≡◌, ◌⊎◌, inl, inr, ℕ, zero, suc, ◌+◌, ◌-◌, ◌<◌, ◌≤◌, Bool, true, false, cond, not, ltb, List, [], ◌∷◌, ◌++◌}
+use Rattle.std.proofs.Common.{◌≡◌, ◌⊎◌, inl, inr, ℕ, zero, suc, ◌+◌, ◌-◌, ◌<◌, ◌≤◌, Bool, true, false, cond, min, not, ltb, List, [], ◌∷◌, ◌++◌}
 use Rattle.std.proofs.Common.{Some, None, Result, Ok, Err, length, slice_get, take, refl, sym, ap, subst, ◌∙◌, arith}
 use Rattle.std.specs.List.{position_or_len}
-use Rattle.std.proofs.lemmas.Bool.{both_ways, cases_lt, ltb-false, ltb-true, not-false, not-true}
+use Rattle.std.proofs.lemmas.Bool.{cases_lt, ltb-false, ltb-true, not-false, not-true}
 use Rattle.std.proofs.lemmas.List.{append-nil, length-take}
 use Rattle.std.proofs.lemmas.Option.{slice_get_within}
 use Rattle.message.proofs.Elements.{slice_get-some}
 use Rattle.message.specs.declared.message.Message.{Message}
 use Rattle.auditing.specs.Fates.{is_numbered}
 use Rattle.auditing.specs.Sent.{misplaced}
-use Rattle.live.specs.Auditing.{GoesTo, LiveHolding, Stands, StopsNear, moves_near}
-use Rattle.live.specs.Following.{Audited, IsAudited, EndsWell, IsLookFault, Left, left_after}
+use Rattle.live.specs.Auditing.{Goes, GoesTo, LiveHolding, Stands, Stops}
+use Rattle.live.specs.Course.{moves_near, near_lines, reached, up_to_one}
+use Rattle.live.specs.Following.{Audited, IsAudited, EndsWell, IsLeftAt, IsLookFault, Left, WasAsked, left_after}
 use Rattle.live.specs.Holding.{Holding}
 use Rattle.live.specs.Holds.{Holds, IsReadFault}
 use Rattle.live.specs.Lines.{Line}
@@ -20,7 +21,7 @@ use Rattle.live.specs.declared.fault.LookFault.{LookFault}
 use Rattle.live.specs.declared.fault.LookFault.TheVariants as look
 use Rattle.live.specs.declared.fault.ReadFault.{ReadFault}
 use Rattle.live.specs.declared.fault.ReadFault.TheVariants as fault
-use Rattle.live.specs.steps.Advancing.{MakesPlace, NoneBefore, ReadsNext}
+use Rattle.live.specs.steps.Advancing.{MakesPlace, NoneBefore, ReadsNext, reaching}
 use Rattle.live.specs.steps.Searching.{is_one}
 use Rattle.live.specs.steps.Looking.{IsReadLast}
 use Rattle.live.specs.steps.Reading.{refusal_by}
@@ -174,6 +175,12 @@ up_to_end all hart number none =
     let at = position_none all.sent hart number none in
     omega (arith, at)
 
+pub past_end : (all : Audited) (hart number : ℕ) → NoneBefore all (length all.sent) hart number
+    → up_to_one all.sent hart number ≡ length all.sent + 1
+past_end all hart number none =
+    let at = position_none all.sent hart number none in
+    omega (arith, at)
+
 -- No more was read than up to it.
 pub up_to_later : (all : Audited) (read hart number : ℕ) → NoneBefore all read hart number → read ≤ length all.sent
     → read ≤ read_up_to all.sent hart number
@@ -285,43 +292,75 @@ module _ (Lines : Type 0) (Told : Lines → List Line → Lines → Type 0)
       (goes_then Lines Told joined all first between last (moves_near all now state)
       (λ next. moves_near all (now + 1) next) (now + 1) new after goes.told more)
 
-  -- The last one was read.
-  pub reads_done : (hart number : ℕ) (new : LiveHolding) (after : Left) → NoneBefore all now hart number
-      → ReadsNext all now (λ told. Told between told last) there hart number (Ok true) new after
-      → GoesTo all (read_up_to all.sent hart number) (λ told. Told first told last)
-      (moves_near all (read_up_to all.sent hart number) state) new after
-      × (NoneBefore all (length all.sent) hart number → EndsWell all)
-  reads_done hart number new after none (inl ended) = (
-    subst (λ n. GoesTo all n (λ told. Told first told last) (moves_near all n state) new after)
-        (ended.0 ∙ sym (up_to_end all hart number (subst (λ n. NoneBefore all n hart number) ended.0 none)))
-        (goes_as all now (λ told. Told first told last) (and_then (moves_near all now state) stays) (moves_near all now state) new
-        after (then_stays (moves_near all now state))
-        (goes_then Lines Told joined all first between last (moves_near all now state) stays now new after goes.told ended.1)),
-    λ all_none. ended.2,
-  )
-  reads_done hart number new after none (inr found) =
-      let within = this_within all.sent now hart number found.0 in (
-        subst (λ n. GoesTo all n (λ told. Told first told last) (moves_near all n state) new after)
-            (sym (up_to_found all now hart number none within found.0)) (reads_further new after found.1),
-        λ all_none. absurd (both_ways _ (all_none now within) found.0),
-      )
+  -- SENT was asked so often before, of which so many were read.
+  module _ (hart number : ℕ) (none : NoneBefore all now hart number) (asked read : ℕ) (was : WasAsked all asked read)
+      (later : read ≤ now) where
+    past : now ≤ position_or_len (is_numbered hart number) all.sent
+    past = position_past all.sent hart number now goes.stands.reads.within none
 
-  -- No more can be read.
-  pub reads_stopped : (hart number : ℕ) (why : LookFault) → NoneBefore all now hart number → IsLookFault all now why
-      → Told between [] last
-      → StopsNear all (λ told. Told first told last) state (moves_near all (read_up_to all.sent hart number) state) why
-  reads_stopped hart number why none fault told = (
-    record {
-      read = now;
-      fault = fault;
-      first = (moves_near all now state).lines;
-      more = (moves_near all (read_up_to all.sent hart number) there).lines;
+    -- All that were asked for were read.
+    reached_was : (length all.sent < reached all hart number asked → EndsWell all)
+        → WasAsked all (reached all hart number asked) (read_up_to all.sent hart number)
+    reached_was ended = record {
+      count = let before = was.count in let more = past in omega (arith, before, later, more);
+      ended = ended;
+    }
+
+    -- The last one was read.
+    pub reads_done : (new : LiveHolding) (after : Left)
+        → ReadsNext all now (λ told. Told between told last) there hart number (Ok true) new after
+        → Goes all (λ told. Told first told last) (reaching all state hart number asked) new after
+    reads_done new after (inl ended) = (
+      read_up_to all.sent hart number,
+      subst (λ n. GoesTo all n (λ told. Told first told last) (moves_near all n state) new after)
+          (ended.0 ∙ sym (up_to_end all hart number (subst (λ n. NoneBefore all n hart number) ended.0 none)))
+          (goes_as all now (λ told. Told first told last) (and_then (moves_near all now state) stays) (moves_near all now state) new
+          after (then_stays (moves_near all now state))
+          (goes_then Lines Told joined all first between last (moves_near all now state) stays now new after goes.told ended.1)),
+      reached_was (λ over. ended.2),
+    )
+    reads_done new after (inr found) =
+        let within = this_within all.sent now hart number found.0 in (
+          read_up_to all.sent hart number,
+          subst (λ n. GoesTo all n (λ told. Told first told last) (moves_near all n state) new after)
+              (sym (up_to_found all now hart number none within found.0)) (reads_further new after found.1),
+          reached_was (λ over.
+              let at = position_is all.sent hart number now none found.0 in
+              let before = was.count in
+              absurd (omega (arith, over, at, before, later, within))),
+        )
+
+    -- No more can be read.
+    pub reads_stopped : (why : LookFault) (after : Left) → IsLookFault all now why → IsLeftAt all now why after
+        → Told between [] last
+        → Stops all (λ told. Told first told last) asked (reaching all state hart number asked) why after
+    reads_stopped why after fault remains told = record {
+      fails = record {
+        asked = asked + (now - read);
+        more = omega arith;
+        less = let before = was.count in let more = past in omega (arith, before, later, more);
+        read = now;
+        was = record { count = now_is; ended = λ over. ended over (cases_lt (length all.sent) asked) };
+        fault = fault;
+        remains = remains;
+      };
+      rest = (moves_near all (read_up_to all.sent hart number) there).lines;
       parts =
-          ap (λ (step : Step). step.lines)
+          ap (λ l. l ++ (moves_near all (read_up_to all.sent hart number) there).lines) same
+          ∙ ap (λ (step : Step). step.lines)
           (sym (near_joined (read_up_to all.sent hart number) (up_to_later all now hart number none goes.stands.reads.within)));
       told =
-          subst (λ l. Told first l last) (append-nil (moves_near all now state).lines)
+          subst (λ l. Told first l last) (append-nil (moves_near all now state).lines ∙ sym same)
           (joined first between last (moves_near all now state).lines [] goes.told told);
-    },
-    refl,
-  )
+    }
+      where
+        now_is : now ≡ min (asked + (now - read)) (length all.sent)
+        now_is = let before = was.count in let within = goes.stands.reads.within in omega (arith, before, later, within)
+
+        same : near_lines all state (asked + (now - read)) ≡ (moves_near all now state).lines
+        same = ap (λ n. (moves_near all n state).lines) (sym now_is)
+
+        ended : length all.sent < asked + (now - read) → (length all.sent < asked) ⊎ (asked ≤ length all.sent) → EndsWell all
+        ended over (inl end) = was.ended end
+        ended over (inr within) =
+            let before = was.count in let most = goes.stands.reads.within in absurd (omega (arith, over, within, before, most))

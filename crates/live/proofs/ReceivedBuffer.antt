@@ -1,10 +1,9 @@
 -- What is held of RECEIVED in its buffer.
 use Rattle.std.proofs.Common.{◌≡◌, ◌≤◌, ◌+◌, ◌-◌, ◌++◌, ◌∙◌, ℕ, Bool, true, false, List, [], ◌∷◌, Option, Some, None}
 use Rattle.std.proofs.Common.{drop, length, take, sym, ap, ap₂, subst, arith}
-use Rattle.std.proofs.lemmas.List.{append_assoc, drop-append-le, drop-take, length-append, length-drop, length-take-le, nil_from_length}
+use Rattle.std.proofs.lemmas.List.{append_assoc, drop-append-le, length-append, length-drop, length-take-le, nil_from_length}
 use lib.Seq.{take-add}
 use Rattle.std.specs.Io.KnownBytes.{Consumes}
-use Rattle.log_streams.specs.declared.fault.FileFault.TheVariants as lacks
 use Rattle.live.specs.ReceivedLeft.{IsLeft, MayFollow, ReceivedHeld}
 use Rattle.live.specs.steps.Receiving.{Says}
 
@@ -46,19 +45,6 @@ left_passed own new (Some xs) rest count left within same ended = (
   ap (drop count) left.1 ∙ drop-append-le count own.bytes xs within ∙ ap (λ l. l ++ xs) (sym same),
 )
 
--- What is left begins with what is held.
-pub left_from : (own : ReceivedHeld) (file : Option (List ℕ)) (rest : List ℕ) → IsLeft own file rest
-    → (more : List ℕ) × MayFollow own.ended more × (rest ≡ own.bytes ++ more)
-left_from own None rest left = absurd left
-left_from own (Some xs) rest left = (xs, left.0, left.1)
-
--- The slice of a buffer that is held.
-pub held_slice : (bytes : List ℕ) (start end : ℕ) → start ≤ end
-    → take (end - start) (drop start bytes) ≡ drop start (take end bytes)
-held_slice bytes start end within =
-    let parts : start + (end - start) ≡ end = omega (arith, within) in
-    sym (drop-take start (end - start) bytes) ∙ ap (λ n. drop start (take n bytes)) parts
-
 -- How many bytes are held.
 pub held_length : (bytes : List ℕ) (start end : ℕ) → end ≤ length bytes → length (drop start (take end bytes)) ≡ end - start
 held_length bytes start end fits =
@@ -71,12 +57,6 @@ pub left_none : (own : ReceivedHeld) (file : Option (List ℕ)) (rest : List ℕ
 left_none own None rest left none ended = absurd left
 left_none own (Some xs) rest left none ended =
     left.1 ∙ ap₂ (λ (a b : List ℕ). a ++ b) (nil_from_length own.bytes none) (subst (λ e. MayFollow e xs) ended left.0)
-
--- What is said of the bytes that are held is said of those that are left.
-pub left_says : {X : Type 0} (is : List ℕ → X) (own : ReceivedHeld) (file : Option (List ℕ)) (rest : List ℕ) (answer : X)
-    → IsLeft own file rest → Says is own.bytes own.ended answer → answer ≡ is rest
-left_says is own None rest answer left says = absurd left
-left_says is own (Some xs) rest answer left says = says xs left.0 ∙ ap is (sym left.1)
 
 -- Some bytes are left where some are held.
 pub left_some : (own : ReceivedHeld) (file : Option (List ℕ)) (rest : List ℕ) → IsLeft own file rest → 1 ≤ length own.bytes

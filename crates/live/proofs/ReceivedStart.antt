@@ -61,11 +61,6 @@ header_within bytes (Some header) None (rest, (is, same)) =
     omega (arith, all, parts)
 header_within bytes (Some header) (Some why) (none, more) = absurd (let e : Some header ≡ None = none in cc)
 
--- It is short.
-pub header_few : (header : Option Header) → first_place header ≤ 16
-header_few None = omega arith
-header_few (Some header) = let all : length (header_bytes header) ≡ 16 = refl in omega (arith, all)
-
 -- How what is left begins is how what is held does: that is all that is left, or as many bytes as a header has.
 pub begun : (own new : ReceivedHeld) (file : Option (List ℕ)) (rest : List ℕ) (start : CaptureStart) → IsLeft own file rest
     → IsStart own.bytes start.header start.fault → (own.ended ≡ false → 16 ≤ length own.bytes)

@@ -1,5 +1,5 @@
 -- Which messages are taken, by what is held of them.
-use Rattle.std.proofs.Common.{◌≡◌, ◌≤◌, ◌+◌, ◌-◌, ◌&&◌, ◌||◌, ◌++◌, ◌∙◌, ℕ, Bool, true, false}
+use Rattle.std.proofs.Common.{◌≡◌, ◌≤◌, ◌+◌, ◌&&◌, ◌||◌, ◌++◌, ◌∙◌, ℕ, Bool, true, false}
 use Rattle.std.proofs.Common.{List, [], ◌∷◌, Some, drop, length, refl, sym, ap, ap₂, arith}
 use Rattle.std.proofs.lemmas.Bool.{and_left}
 use Rattle.std.proofs.lemmas.List.{drop-append-le}
@@ -68,11 +68,6 @@ pub next_held : (rule : Rule) (xs more : List ℕ) (size : ℕ) (found : Seen) �
 next_held rule xs more size found begins seen =
     ap₂ (λ (b c : Bool). b || c) (goes xs more size begins)
     (counted_held rule xs more (its xs size begins).0 ∙ ap (λ s. is_counted (sight_of s)) (sym seen))
-
--- Where there are bytes and no message begins them, they do not go on.
-pub ends_none : (xs : List ℕ) → 1 ≤ length xs → is_complete xs ≡ false → ends_or_begins xs ≡ false
-ends_none [] some none = absurd (omega (arith, some))
-ends_none (b ∷ bytes) some none = none
 
 pub ends_begun : (xs : List ℕ) → is_complete xs ≡ true → ends_or_begins xs ≡ true
 ends_begun [] is = refl

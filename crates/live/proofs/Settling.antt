@@ -1,31 +1,33 @@
 -- What waits is decided before the next message of its hart is looked up.
-use Rattle.std.proofs.Common.{◌≡◌, ◌≢◌, ◌⊎◌, inl, inr, ℕ, zero, suc, ◌+◌, ◌-◌, ◌<◌, ◌≤◌, Bool, true, false, cond, List, [], ◌∷◌, ◌++◌}
+use Rattle.std.proofs.Common.{◌≡◌, ◌≢◌, ◌⊎◌, inl, inr, ℕ, zero, suc, ◌+◌, ◌-◌, ◌<◌, ◌≤◌, Bool, true, false, cond, ltb, List, [], ◌∷◌, ◌++◌}
 use Rattle.std.proofs.Common.{Option, Some, None, Result, Ok, Err, drop, length, set, slice_get, take, refl, sym, ap, subst, ◌∙◌, arith}
 use Rattle.std.proofs.Math.Path.{fun_ext}
-use Rattle.std.proofs.lemmas.Bool.{cases_eq, cases_lt, eq-eqb, false_from_ne_true, lt-ltb, ne_eqb, true≢false}
+use Rattle.std.proofs.lemmas.Bool.{cases_eq, cases_lt, eq-eqb, false_from_ne_true, le-ltb, lt-ltb, ne_eqb, true≢false}
 use Rattle.std.proofs.lemmas.List.{length-set, length-take, take-append-drop}
 use Rattle.message.specs.OfHart.{of_hart}
 use Rattle.message.specs.declared.message.Message.{Message}
 use Rattle.auditing.proofs.Counting.{set_other, set_same}
 use Rattle.auditing.specs.Sent.{AreInTurn}
 use Rattle.auditing.specs.declared.finding.Finding.TheVariants as finding
-use Rattle.live.specs.Auditing.{GoesTo, LiveHolding, Stands, Went, waiting_at, waiting_in, moves_near}
-use Rattle.live.specs.Following.{Audited, IsAudited, Left}
+use Rattle.live.specs.Auditing.{Goes, GoesTo, LiveHolding, Stands, Stops, Went, waiting_at, waiting_in}
+use Rattle.live.specs.Course.{Course, doubted_to, going_on, moves_near, near_lines, reached, settling, taking, then_goes}
+use Rattle.live.specs.Following.{Audited, FailsAt, IsAudited, Left, WasAsked, looked_to}
 use Rattle.live.specs.Holding.{Holding}
 use Rattle.live.specs.Lines.{Line, Decided}
-use Rattle.live.specs.Live.{State, Step, and_then, is_beyond, judged, judged_at, read_up_to, settles, standing_now, stays}
-use Rattle.live.specs.Live.{strange, waits, with_own}
+use Rattle.live.specs.Live.{State, Step, and_then, is_beyond, is_outage, judged, judged_at, read_up_to, settled, settles}
+use Rattle.live.specs.Live.{standing_now, stays, strange, taken, waits, with_own}
 use Rattle.live.specs.View.{given_up, in_view, is_below, standing_from, standing_of}
 use Rattle.live.specs.declared.arrived.Arrived.{Arrived}
 use Rattle.live.specs.declared.fault.LookFault.{LookFault}
 use Rattle.live.specs.declared.standing.Standing.{Standing}
 use Rattle.live.specs.declared.standing.Standing.TheVariants as standing
-use Rattle.live.specs.steps.Advancing.{IsAsked, IsFound, NoneBefore, ReadsOn}
+use Rattle.live.specs.steps.Advancing.{IsAsked, IsFound, NoneBefore, reaching}
 use Rattle.live.specs.steps.Searching.{is_one}
 use Rattle.live.specs.steps.Waiting.{without}
 use Rattle.live.proofs.Judging.{slice_get-drop}
 use Rattle.live.proofs.Standings.{numbered_is, stands_at, turns_split}
-use Rattle.live.proofs.Steps.{goes_as, goes_then, stops_then}
+use Rattle.live.proofs.Following.{fails_later, fails_sooner}
+use Rattle.live.proofs.Steps.{goes_as, goes_then, stops_at_once, stops_then}
 use Rattle.live.proofs.Widening.{get_taken, one_is, read_number, stands_reads}
 
 -- What waits of each hart, where this one waits of one.
@@ -201,38 +203,124 @@ near_read all read state own left stands =
     omega (arith, taken, ahead, window, within)
 
 -- What is found of what is held of SENT is found of all that is held.
-pub found_asked : (all : Audited) (read : ℕ) (state : State) (own : LiveHolding) (left : Left)
+pub found_asked : (all : Audited) (from to read : ℕ) (state : State) (own : LiveHolding) (left : Left)
     → Stands all read state own left → (is : Bool) (result : Result Bool LookFault) (window : Holding) (after : Left)
-    → IsFound all state is result window after → IsAsked all state is result (record own { window = window }) after
-found_asked all read state own left stands is (Ok found) window after its = (
+    → IsFound all from to state is result window after
+    → IsAsked all from to state is result (record own { window = window }) after
+found_asked all from to read state own left stands is (Ok found) window after its = (
   its.0,
   (
     its.1.0,
     stands_reads all read state own left stands its.1.0 state.came state.front window after its.1.1,
+    its.1.2,
   ),
 )
-found_asked all read state own left stands is (Err why) window after its = its
+found_asked all from to read state own left stands is (Err why) window after its = its
 
--- SENT was read on, however far.
-pub went_on : {U : Type 0} → (all : Audited) (Told : List Line → Type 0) (state : State) (hart number : ℕ)
-    (result : Result U LookFault) (own : LiveHolding) (left : Left)
-    → ReadsOn all Told state hart number result own left
-    → Went all Told (moves_near all (read_up_to all.sent hart number) state) result own left
-went_on all Told state hart number (Ok done) own left goes = (read_up_to all.sent hart number, goes.0)
-went_on all Told state hart number (Err why) own left stops = stops.0
+-- It is found whether the path was out, and SENT is read on if it was.
+module _ (all : Audited) (state : State) (first second : Message) (asked : ℕ) where
+  abbrev doubted : ℕ
+  doubted = doubted_to all state first second asked
+
+  pub doubted_later : asked ≤ doubted_to all state first second asked
+  doubted_later = go (is_beyond (standing_now all.window all.sent state first))
+    where
+      once : ℕ
+      once = looked_to all state.front first.hart first.number asked
+
+      go : (is : Bool) → asked ≤ cond is (looked_to all state.front second.hart second.number once) once
+      go true = omega arith
+      go false = omega arith
+
+  -- By whether it was.
+  abbrev course : Bool → Course
+  course is = record {
+    step = cond is (moves_near all (read_up_to all.sent first.hart first.number) state) (stays state);
+    asked = cond is (reached all first.hart first.number doubted) doubted;
+    told = λ failed. cond (ltb failed doubted) [] (near_lines all state failed);
+  }
+
+  course_later : (is : Bool) → doubted ≤ (course is).asked
+  course_later true = omega arith
+  course_later false = omega arith
+
+  pub going_later : asked ≤ (going_on all state first second asked).asked
+  going_later =
+      let own = doubted_later in
+      let more : doubted_to all state first second asked ≤ (going_on all state first second asked).asked =
+      course_later (is_outage all.window all.sent state first second) in
+      omega (arith, own, more)
+
+  -- SENT failed before that was found.
+  pub doubt_fails : (Told : List Line → Type 0) (why : LookFault) (left : Left) → Told []
+      → FailsAt all asked (doubted_to all state first second asked) why left
+      → Stops all Told asked (going_on all state first second asked) why left
+  doubt_fails Told why left told fails =
+      stops_at_once all Told asked (going_on all state first second asked) why left
+      (fails_sooner all asked doubted (going_on all state first second asked).asked why left
+      (course_later (is_outage all.window all.sent state first second)) fails)
+      (ap (λ b. cond b [] (near_lines all state fails.asked)) (lt-ltb fails.asked doubted fails.less)) told
+
+  -- The path was out: SENT was read on.
+  pub went_on : {U : Type 0} → (Told : List Line → Type 0) (result : Result U LookFault) (own : LiveHolding) (left : Left)
+      → true ≡ is_outage all.window all.sent state first second
+      → Went all Told (doubted_to all state first second asked)
+      (reaching all state first.hart first.number (doubted_to all state first second asked)) result own left
+      → Went all Told asked (going_on all state first second asked) result own left
+  went_on Told (Ok done) own left out goes = subst (λ b. Goes all Told (course b) own left) out goes
+  went_on Told (Err why) own left out stops =
+      let same =
+      ap (λ b. cond b [] (near_lines all state stops.fails.asked)) (le-ltb stops.fails.asked doubted stops.fails.more) in
+      subst (λ b. Stops all Told asked (course b) why left) out (record {
+        fails = fails_later all asked doubted (course true).asked why left doubted_later stops.fails;
+        rest = stops.rest;
+        parts = ap (λ l. l ++ stops.rest) same ∙ stops.parts;
+        told = subst Told (sym same) stops.told;
+      })
+
+  -- It was not: nothing happens.
+  pub went_still : (Told : List Line → Type 0) (read : ℕ) (own : LiveHolding) (left : Left)
+      → false ≡ is_outage all.window all.sent state first second → Stands all read state own left
+      → WasAsked all (doubted_to all state first second asked) read → Told []
+      → Went {U = Unit {0}} all Told asked (going_on all state first second asked) (Ok tt) own left
+  went_still Told read own left out stands was told =
+      subst (λ b. Goes all Told (course b) own left) out (read, record { stands = stands; told = told }, was)
+
+-- What waits is settled by the step that settles it, and asked for no less.
+pub settling_step : (all : Audited) (state : State) (one : Arrived) (first : Option Arrived) (asked : ℕ)
+    → (settling all state one first asked).step ≡ settled all.window all.sent state one first
+settling_step all state one None asked = refl
+settling_step all state one (Some first) asked = refl
+
+pub settling_later : (all : Audited) (state : State) (one : Arrived) (first : Option Arrived) (asked : ℕ)
+    → asked ≤ (settling all state one first asked).asked
+settling_later all state one None asked = omega arith
+settling_later all state one (Some first) asked =
+    let more = going_later all (settles state one.message.hart) first.message one.message asked in omega (arith, more)
+
+-- A message is taken by the step that takes it.
+pub taking_step : (all : Audited) (state : State) (one : Arrived) (asked : ℕ)
+    → (taking all state one asked).step ≡ taken all.window all.sent state one
+taking_step all state one asked =
+    ap (λ step. and_then step (λ next. judged waits all.window all.sent next one))
+    (settling_step all state one (state.waiting one.message.hart) asked)
 
 module _ (Lines : Type 0) (Told : Lines → List Line → Lines → Type 0)
     (joined : (first between last : Lines) (before after : List Line) → Told first before between
     → Told between after last → Told first (before ++ after) last) (all : Audited) (first between last : Lines) where
-  -- A step was made, and then the next one, or that one could not be.
-  pub went_then : {U : Type 0} → (step : Step) (next : State → Step) (result : Result U LookFault) (own : LiveHolding)
-      (left : Left) → Told first step.lines between
-      → Went all (λ told. Told between told last) (next step.state) result own left
-      → Went all (λ told. Told first told last) (and_then step next) result own left
-  went_then step next (Ok done) own left before after =
-      (after.0, goes_then Lines Told joined all first between last step next after.0 own left before after.1)
-  went_then step next (Err why) own left before after =
-      stops_then Lines Told joined all first between last step next why before after
+  -- A course was gone, and then the next one, or that one could not be.
+  pub went_then : {U : Type 0} → (from : ℕ) (course : Course) (next : State → ℕ → Course) (result : Result U LookFault)
+      (own : LiveHolding) (left : Left) → from ≤ course.asked → Told first course.step.lines between
+      → Went all (λ told. Told between told last) course.asked (next course.step.state course.asked) result own left
+      → Went all (λ told. Told first told last) from (then_goes course next) result own left
+  went_then from course next (Ok done) own left later before after = (
+    after.0,
+    goes_then Lines Told joined all first between last course.step (λ state. (next state course.asked).step) after.0 own left
+        before after.1,
+    after.2,
+  )
+  went_then from course next (Err why) own left later before after =
+      stops_then course next Lines Told joined all first between last from why left before later after
 
   -- What is beyond is a stranger.
   pub last_strange : (read : ℕ) (state : State) (one : Arrived) (own : LiveHolding) (left : Left)

@@ -1,13 +1,14 @@
 -- Steps of a live audit, one after the other.
 use Rattle.std.proofs.Common.{◌≡◌, ◌⊎◌, inl, inr, ℕ, zero, suc, ◌+◌, ◌-◌, ◌<◌, ◌≤◌, Bool, true, false, cond, eqb, List, [], ◌∷◌, ◌++◌}
 use Rattle.std.proofs.Common.{Option, Some, None, drop, length, slice_get, take, refl, sym, ap, subst, ◌∙◌, arith}
-use Rattle.std.proofs.lemmas.Bool.{cases_lt}
+use Rattle.std.proofs.lemmas.Bool.{cases_lt, le-ltb, lt-ltb}
 use Rattle.std.proofs.lemmas.List.{append-nil, append_assoc, drop-append-le, drop-take, drop_all, length-drop, length-take}
 use Rattle.std.proofs.lemmas.List.{take-append-drop, take-take}
 use Rattle.message.specs.declared.message.Message.{Message}
 use Rattle.live.specs.Compared.{known_finding}
-use Rattle.live.specs.Auditing.{GoesTo, LiveHolding, Stops, StopsNear}
-use Rattle.live.specs.Following.{Audited, IsLookFault, Left}
+use Rattle.live.specs.Auditing.{GoesTo, LiveHolding, Stops}
+use Rattle.live.specs.Course.{Course, then_goes}
+use Rattle.live.specs.Following.{Audited, FailsAt, Left}
 use Rattle.live.specs.Lines.{Line}
 use Rattle.live.specs.Live.{State, Step, after_lines, and_then, finds, gives_last, last_held, met, moves_to, passes}
 use Rattle.live.specs.Live.{passes_all, settles, stays}
@@ -15,6 +16,7 @@ use Rattle.live.specs.View.{given_up}
 use Rattle.live.specs.declared.arrived.Arrived.{Arrived}
 use Rattle.live.specs.declared.fault.LookFault.{LookFault}
 use Rattle.live.specs.declared.held.SentMessage.{SentMessage}
+use Rattle.live.proofs.Following.{fails_later, fails_sooner}
 use Rattle.live.proofs.Passing.{drop_from, take_to}
 
 -- Two steps with the same state and the same lines.
@@ -155,49 +157,66 @@ module _ (Lines : Type 0) (Told : Lines → List Line → Lines → Type 0)
     told = joined first between last step.lines (next step.state).lines before after.told;
   }
 
-  -- In the step after one SENT could not be read on.
-  pub stops_then : (why : LookFault) → Told first step.lines between
-      → Stops all (λ told. Told between told last) (next step.state) why
-      → Stops all (λ told. Told first told last) (and_then step next) why
-  stops_then why before after = record {
-    read = after.read;
-    fault = after.fault;
-    first = step.lines ++ after.first;
-    more = after.more;
-    parts = append_assoc step.lines after.first after.more ∙ ap (λ l. step.lines ++ l) after.parts;
-    told = joined first between last step.lines after.first before after.told;
-  }
+-- What is told of a course and then of the next, by where SENT fails.
+module _ (first : Course) (next : State → ℕ → Course) where
+  told_first : (failed : ℕ) → failed < first.asked → (then_goes first next).told failed ≡ first.told failed
+  told_first failed less =
+      ap (λ b. cond b (first.told failed) (first.step.lines ++ (next first.step.state first.asked).told failed))
+      (lt-ltb failed first.asked less)
 
--- In a step SENT could not be read on, so no more came after it.
-pub stops_first : (all : Audited) (Told : List Line → Type 0) (step : Step) (next : State → Step) (why : LookFault)
-    → Stops all Told step why → Stops all Told (and_then step next) why
-stops_first all Told step next why stops = record {
-  read = stops.read;
-  fault = stops.fault;
-  first = stops.first;
-  more = stops.more ++ (next step.state).lines;
-  parts =
-      sym (append_assoc stops.first stops.more (next step.state).lines)
-      ∙ ap (λ l. l ++ (next step.state).lines) stops.parts;
-  told = stops.told;
-}
+  told_then : (failed : ℕ) → first.asked ≤ failed
+      → (then_goes first next).told failed ≡ first.step.lines ++ (next first.step.state first.asked).told failed
+  told_then failed past =
+      ap (λ b. cond b (first.told failed) (first.step.lines ++ (next first.step.state first.asked).told failed))
+      (le-ltb failed first.asked past)
 
--- The same, where the lines that were told are those of the front's way.
-pub stops_near : (all : Audited) (Told : List Line → Type 0) (state : State) (step : Step) (next : State → Step)
-    (why : LookFault) → StopsNear all Told state step why → StopsNear all Told state (and_then step next) why
-unfolding stops_first
-stops_near all Told state step next why stops = (stops_first all Told step next why stops.0, stops.1)
+  -- In a course SENT could not be read on, so no more came after it.
+  pub stops_first : (all : Audited) (Told : List Line → Type 0) (from : ℕ) (why : LookFault) (left : Left)
+      → first.asked ≤ (next first.step.state first.asked).asked → Stops all Told from first why left
+      → Stops all Told from (then_goes first next) why left
+  stops_first all Told from why left later stops =
+      let same = told_first stops.fails.asked stops.fails.less in record {
+        fails = fails_sooner all from first.asked (next first.step.state first.asked).asked why left later stops.fails;
+        rest = stops.rest ++ (next first.step.state first.asked).step.lines;
+        parts =
+            ap (λ l. l ++ (stops.rest ++ (next first.step.state first.asked).step.lines)) same
+            ∙ sym (append_assoc (first.told stops.fails.asked) stops.rest (next first.step.state first.asked).step.lines)
+            ∙ ap (λ l. l ++ (next first.step.state first.asked).step.lines) stops.parts;
+        told = subst Told (sym same) stops.told;
+      }
+
+  -- In the course after one SENT could not be read on.
+  pub stops_then : (Lines : Type 0) (Told : Lines → List Line → Lines → Type 0)
+      → ((one two three : Lines) (before after : List Line) → Told one before two → Told two after three
+      → Told one (before ++ after) three)
+      → (all : Audited) (one two three : Lines) (from : ℕ) (why : LookFault) (left : Left) → Told one first.step.lines two
+      → from ≤ first.asked
+      → Stops all (λ told. Told two told three) first.asked (next first.step.state first.asked) why left
+      → Stops all (λ told. Told one told three) from (then_goes first next) why left
+  stops_then Lines Told joined all one two three from why left before later stops =
+      let own = next first.step.state first.asked in
+      let more = stops.fails.more in
+      let same = told_then stops.fails.asked more in record {
+        fails = fails_later all from first.asked own.asked why left later stops.fails;
+        rest = stops.rest;
+        parts =
+            ap (λ l. l ++ stops.rest) same
+            ∙ append_assoc first.step.lines (own.told stops.fails.asked) stops.rest
+            ∙ ap (λ l. first.step.lines ++ l) stops.parts;
+        told =
+            subst (λ l. Told one l three) (sym same)
+            (joined one two three first.step.lines (own.told stops.fails.asked) before stops.told);
+      }
 
 -- SENT could not be read on before a line was told.
-pub stops_at_once : (all : Audited) (Told : List Line → Type 0) (step : Step) (read : ℕ) (why : LookFault)
-    → IsLookFault all read why → Told [] → Stops all Told step why
-stops_at_once all Told step read why fault told = record {
-  read = read;
-  fault = fault;
-  first = [];
-  more = step.lines;
-  parts = refl;
-  told = told;
+pub stops_at_once : (all : Audited) (Told : List Line → Type 0) (from : ℕ) (course : Course) (why : LookFault) (left : Left)
+    → (fails : FailsAt all from course.asked why left) → course.told fails.asked ≡ [] → Told []
+    → Stops all Told from course why left
+stops_at_once all Told from course why left fails none told = record {
+  fails = fails;
+  rest = course.step.lines;
+  parts = ap (λ l. l ++ course.step.lines) none;
+  told = subst Told (sym none) told;
 }
 
 -- Where a step does the same, it was made or could not be.

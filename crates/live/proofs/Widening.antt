@@ -40,7 +40,7 @@ own_numbered message =
     and_from _ _ (eq-eqb message.hart message.hart refl) (eq-eqb message.number message.number refl)
 
 -- More of the first messages have no fewer of a hart.
-taken_fewer : (hart : ℕ) (messages : List Message) (first last : ℕ) → first ≤ last
+pub taken_fewer : (hart : ℕ) (messages : List Message) (first last : ℕ) → first ≤ last
     → length (of_hart hart (take first messages)) ≤ length (of_hart hart (take last messages))
 taken_fewer hart messages first last later =
     let fewer = no_fewer hart (take first (take last messages)) (drop first (take last messages)) in
@@ -82,10 +82,11 @@ within_at (first ∷ messages) (suc k) message is =
     let less = within_at messages k message is in
     omega (arith, less)
 
--- A number that is in view was read.
-pub in_view_read : (window : ℕ) (sent : List Message) (harts : ℕ) → AreInTurn harts [] sent → (front hart number place : ℕ)
-    → standing_of window sent front hart number ≡ standing.At place → number < length (of_hart hart sent)
-in_view_read window sent harts turn front hart number place is =
+-- A number that is in view is of a message up to the end of the view.
+pub in_view_seen : (window : ℕ) (sent : List Message) (harts : ℕ) → AreInTurn harts [] sent → (front hart number place : ℕ)
+    → standing_of window sent front hart number ≡ standing.At place
+    → number < length (of_hart hart (take (front + window) sent))
+in_view_seen window sent harts turn front hart number place is =
     by_tests (is_below window sent front hart number) is
   where
     seen : List Message
@@ -96,7 +97,7 @@ in_view_read window sent harts turn front hart number place is =
         turns_split harts [] seen (drop (front + window) sent)
         (subst (λ l. AreInTurn harts [] l) (sym (take-append-drop (front + window) sent)) turn)
 
-    viewed : standing_from 0 (in_view window sent front) hart number ≡ standing.At place → number < length (of_hart hart sent)
+    viewed : standing_from 0 (in_view window sent front) hart number ≡ standing.At place → number < length (of_hart hart seen)
     viewed at =
         let found = stands_where (in_view window sent front) 0 hart number place at in
         let one = one_is hart number (slice_get (in_view window sent front) found.0) found.2 in
@@ -106,16 +107,23 @@ in_view_read window sent harts turn front hart number place is =
         let its = numbered_is hart number one.0 one.2 in
         let all = ap (λ l. length (of_hart one.0.hart l)) (take_all (length seen) seen (omega arith)) in
         let count = ap (λ h. length (of_hart h seen)) its.0 in
-        let fewer = no_fewer hart seen (drop (front + window) sent) in
-        let whole = ap (λ l. length (of_hart hart l)) (take-append-drop (front + window) sent) in
         let same = its.1 in
-        omega (arith, low, all, count, fewer, whole, same)
+        omega (arith, low, all, count, same)
 
     by_tests : (low : Bool)
         → cond low standing.Below (standing_from 0 (in_view window sent front) hart number) ≡ standing.At place
-        → number < length (of_hart hart sent)
+        → number < length (of_hart hart seen)
     by_tests true at = cc
     by_tests false at = viewed at
+
+-- So it was read.
+pub in_view_read : (window : ℕ) (sent : List Message) (harts : ℕ) → AreInTurn harts [] sent → (front hart number place : ℕ)
+    → standing_of window sent front hart number ≡ standing.At place → number < length (of_hart hart sent)
+in_view_read window sent harts turn front hart number place is =
+    let seen = in_view_seen window sent harts turn front hart number place is in
+    let fewer = no_fewer hart (take (front + window) sent) (drop (front + window) sent) in
+    let whole = ap (λ l. length (of_hart hart l)) (take-append-drop (front + window) sent) in
+    omega (arith, seen, fewer, whole)
 
 -- A place in view is below how many were read.
 pub in_view_within : (window : ℕ) (sent : List Message) (front hart number place : ℕ)

@@ -1,7 +1,7 @@
 -- What is read of SENT from where it comes.
-use Rattle.std.specs.Prelude.{ℕ, ◌≡◌, ◌≢◌, ◌-◌, ◌^◌, ◌<◌, ◌≤◌, ◌++◌, true, Bool, List, [], ◌∷◌, Option, Some, None}
-use Rattle.std.specs.Prelude.{Result, Ok, Err}
-use Rattle.std.specs.Prelude.{drop, length, option_map, slice_get, take}
+use Rattle.std.specs.Prelude.{ℕ, ◌≡◌, ◌≢◌, ◌+◌, ◌-◌, ◌^◌, ◌<◌, ◌≤◌, ◌++◌, true, Bool, List, [], ◌∷◌, Option, Some, None}
+use Rattle.std.specs.Prelude.{Result, Ok, Err, if◌then◌else◌}
+use Rattle.std.specs.Prelude.{drop, length, min, option_map, slice_get, take}
 use Rattle.payload.specs.declared.by.By.{By}
 use Rattle.message.specs.declared.fault.DemuxFault.{DemuxFault}
 use Rattle.message.specs.declared.fault.MessageFault.{MessageFault}
@@ -33,11 +33,15 @@ abbrev pub IsSourceFault : SourceFault → Left → Type 0
 IsSourceFault (source.Unread why) left = left ≡ record { known = true; messages = []; ending = Some why }
 IsSourceFault other left = Unit {0}
 
+-- The same is left, if that is known.
+abbrev pub StaysLeft : Left → Left → Type 0
+StaysLeft old new = new.known ≡ true → new ≡ old
+
 -- What a source of messages gives, by what was left and what is.
 abbrev pub Gives : Result (Option Message) SourceFault → Left → Left → Type 0
 Gives (Ok (Some message)) old new = old ≡ left_with message new
 Gives (Ok None) old new = (old ≡ record { known = true; messages = []; ending = None }) × (new ≡ old)
-Gives (Err why) old new = IsSourceFault why old
+Gives (Err why) old new = IsSourceFault why old × StaysLeft old new
 
 -- The same, where it is known what was left. Else nothing is said.
 abbrev pub IsNext : Result (Option Message) SourceFault → Left → Left → Type 0
@@ -96,6 +100,41 @@ IsLookFault all read (look.Sent (fault.Misplaced why)) =
 IsLookFault all read (look.Sent fault.Full) =
     option_map (λ (message : Message). message.number) (slice_get all.sent read) ≡ Some (2 ^ 64 - 1)
 
+-- What is left of SENT where it is not read on after so many messages: the others, if that is known and its source gave
+-- none; else what follows the one that it gave.
+abbrev pub IsLeftAt : Audited → ℕ → LookFault → Left → Type 0
+IsLeftAt all read (look.Source why) left = StaysLeft (left_after all read) left
+IsLeftAt all read (look.Sent why) left = (message : Message) × (left_after all read ≡ left_with message left)
+
+-- How often SENT is asked for a message to look up one of this hart with this number, where these were read and those
+-- follow: as long as it may be in view and not read yet. At SENT's end there is none.
+abbrev pub asked_for : ℕ → ℕ → ℕ → ℕ → ℕ → List Message → List Message → ℕ
+asked_for harts window front hart number sent [] = if is_wanted harts window sent front hart number then 1 else 0
+asked_for harts window front hart number sent (message ∷ messages) =
+    if is_wanted harts window sent front hart number then
+    1 + asked_for harts window front hart number (sent ++ message ∷ []) messages else
+    0
+
+-- How often SENT was asked for a message after one of this hart with this number is looked up, if it was so often before.
+abbrev pub looked_to : Audited → ℕ → ℕ → ℕ → ℕ → ℕ
+looked_to all front hart number asked =
+    asked + asked_for all.harts all.window front hart number (take asked all.sent) (drop asked all.sent)
+
+-- SENT was asked for a message so often, and gave each: so many were read. If it was asked at its end, it has no fault.
+pub record WasAsked (all : Audited) (asked read : ℕ) : Type 0 where
+  pub count : read ≡ min asked (length all.sent)
+  pub ended : length all.sent < asked → EndsWell all
+
+-- SENT is not read on: it was asked so often before, from so often to less than so often.
+pub record FailsAt (all : Audited) (from to : ℕ) (why : LookFault) (left : Left) : Type 0 where
+  pub asked : ℕ
+  pub more : from ≤ asked
+  pub less : asked < to
+  pub read : ℕ
+  pub was : WasAsked all asked read
+  pub fault : IsLookFault all read why
+  pub remains : IsLeftAt all read why left
+
 -- SENT was read from one place to another to look up a message of this hart with this number: no message before was read in
 -- vain.
 abbrev pub AllWanted : Audited → ℕ → ℕ → ℕ → ℕ → ℕ → Type 0
@@ -109,24 +148,23 @@ pub record IsLooked (all : Audited) (first : ℕ) (came : List Message) (front h
   pub reads : Reads all read came front own left
   pub more : first ≤ read
   pub wanted : AllWanted all first read front hart number
+  pub was : WasAsked all (looked_to all front hart number first) read
   pub settled : standing_of all.window (take read all.sent) front hart number
       ≡ standing_of all.window all.sent front hart number
 
 -- SENT could not be read on. What was read before stays read.
 pub record IsStopped (all : Audited) (first : ℕ) (came : List Message) (front hart number : ℕ) (own : Holding)
-    (why : LookFault) : Type 0 where
-  pub read : ℕ
-  pub holds : Holds (take read all.sent) came front own
-  pub within : read ≤ length all.sent
+    (why : LookFault) (left : Left) : Type 0 where
+  pub fails : FailsAt all first (looked_to all front hart number first) why left
+  pub holds : Holds (take fails.read all.sent) came front own
   pub harts : length own.harts ≡ all.harts
   pub window : own.window ≡ all.window
   pub by : own.by ≡ all.by
-  pub more : first ≤ read
-  pub wanted : AllWanted all first read front hart number
-  pub fault : IsLookFault all read why
+  pub more : first ≤ fails.read
+  pub wanted : AllWanted all first (fails.read + 1) front hart number
 
 -- SENT was read on as far as a message of this hart with this number asks for, after so many messages of it.
 abbrev pub Looks : {U : Type 0} → Audited → ℕ → List Message → ℕ → ℕ → ℕ → Result U LookFault → Holding → Left
     → Type 0
 Looks all first came front hart number (Ok done) own left = IsLooked all first came front hart number own left
-Looks all first came front hart number (Err why) own left = IsStopped all first came front hart number own why
+Looks all first came front hart number (Err why) own left = IsStopped all first came front hart number own why left

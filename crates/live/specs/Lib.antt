@@ -5,11 +5,14 @@ pub mod Runs
 pub mod Live
 pub mod Written
 pub mod Rows
+pub mod AsAudited
 pub mod CountsMore
 pub mod Holding
 pub mod Holds
 pub mod Following
-pub mod Auditing
+pub mod Course
 pub mod Received
 pub mod ReceivedLeft
+pub mod Auditing
+pub mod Calls
 pub mod steps

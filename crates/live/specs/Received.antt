@@ -1,6 +1,6 @@
 -- How the bytes of RECEIVED are read, which may be damaged: by the rules of an audit, and by what is in view.
 use Rattle.std.specs.Prelude.{ℕ, ◌+◌, ◌-◌, ◌==◌, ◌&&◌, ◌||◌, ◌++◌, nat_lt, Bool, true, false, if◌then◌else◌, List, [], ◌∷◌}
-use Rattle.std.specs.Prelude.{Option, Some, None, slice_get, take}
+use Rattle.std.specs.Prelude.{Option, Some, None, drop, slice_get, take}
 use Prim.Native.Nat.{zero, suc}
 use Rattle.frames.specs.Frame.{frame_in, frame_size, is_complete}
 use Rattle.frames.specs.GuidedTaken.{Sees, after, goes_on, is_counted_at, is_sent_at}
@@ -113,11 +113,14 @@ abbrev pub bytes_to_next : Rule → List ℕ → ℕ
 bytes_to_next rule [] = 0
 bytes_to_next rule (b ∷ bytes) = if is_taken rule true (b ∷ bytes) then 0 else bytes_to_next rule bytes + 1
 
--- What is at the place of the first of these bytes, which has this offset: the message that begins them, if it is taken; or
--- the bytes up to the next that is taken anywhere. Nothing is at the end.
+-- What is at the place of the first of these bytes, if there is one, which has this offset: the message that begins them, if
+-- it is taken; or the bytes up to the next that is taken anywhere.
+abbrev pub span_at : Rule → ℕ → List ℕ → Span
+span_at rule offset bytes =
+    if is_taken rule false bytes then span.Frame offset (frame_in bytes) else
+    span.Bytes offset (bytes_to_next rule (drop 1 bytes) + 1)
+
+-- The same, if there is one. Nothing is at the end.
 abbrev pub first_span : Rule → ℕ → List ℕ → Option Span
 first_span rule offset [] = None
-first_span rule offset (b ∷ bytes) =
-    Some
-    (if is_taken rule false (b ∷ bytes) then span.Frame offset (frame_in (b ∷ bytes)) else
-    span.Bytes offset (bytes_to_next rule bytes + 1))
+first_span rule offset (b ∷ bytes) = Some (span_at rule offset (b ∷ bytes))

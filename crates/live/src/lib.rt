@@ -48,8 +48,9 @@ pub use fault::{LookFault, ReadFault, ReceivedFault, SourceFault};
 pub use held::SentMessage;
 pub use judged::Judged;
 pub use laws::{
-    framed_messages_are_taken, live_audits_are_bounded, live_rows_add_up,
-    untrue_messages_leave_the_front, views_are_bounded,
+    calls_hand_over_live_audits, calls_read_all_of_received, framed_messages_are_taken,
+    live_audits_are_bounded, live_audits_find_the_same, live_rows_add_up,
+    untrue_messages_leave_the_front, views_are_bounded, whole_live_is_whole,
 };
 pub use lines::LiveLines;
 pub use live_audit::LiveAudit;

@@ -1,13 +1,13 @@
 //! The live audit.
 
-ghost use Rattle.std.specs.Prelude.{◌≡◌, ◌+◌, ◌<◌, ◌≤◌, ◌^◌, ℕ, IfOk, List, Ok, Some, drop, length, max, min, slice_get, take};
+ghost use Rattle.std.specs.Prelude.{◌≡◌, ◌+◌, ◌<◌, ◌≤◌, ◌^◌, ℕ, IfOk, List, Ok, OnOk, Some, drop, length, max, min, slice_get, take};
 ghost use Rattle.message.specs.declared.message.Message.{Message as AnyMessage};
-ghost use Rattle.live.specs.Auditing.{Ended, GoesTo, LiveHolding, ReadsSent, Stands, Went};
-ghost use Rattle.live.specs.Following.{Audited, IsAudited, Left, left_after};
-ghost use Rattle.live.specs.ReceivedLeft.{IsLeft, IsNextSpan};
-ghost use Rattle.live.specs.Live.{State, and_then, finished, goes_on, is_outage, judged, met, passes, passes_all};
-ghost use Rattle.live.specs.Live.{settled, start, strange, taken, taken_of, waits};
-ghost use Rattle.live.specs.steps.Advancing.{IsAsked, IsJudged, IsSettled, MakesPlace, NoneBefore, ReadsNext, ReadsOn};
+ghost use Rattle.live.specs.Auditing.{Ended, GoesTo, LiveHolding, ReadsSent, Stands, StandsOn, Went};
+ghost use Rattle.live.specs.Course.{doubted_to, going_on, looking, settling, taking, taking_of, then_goes};
+ghost use Rattle.live.specs.Following.{Audited, IsAudited, Left, WasAsked, left_after, looked_to};
+ghost use Rattle.live.specs.ReceivedLeft.{IsLeft, IsNextSpan, Receives, sought_to};
+ghost use Rattle.live.specs.Live.{State, finished, is_outage, judged, met, passes, passes_all, start, strange, waits};
+ghost use Rattle.live.specs.steps.Advancing.{IsAsked, IsJudged, IsSettled, MakesPlace, NoneBefore, ReadsNext, reaching};
 
 use crate::arrived::Arrived;
 use crate::fault::{LookFault, ReceivedFault, SourceFault};
@@ -124,9 +124,10 @@ impl<A: Allocator> LiveAudit<A> {
         source: &mut S,
         lines: &mut L,
     ) -> Result<bool, LookFault>
-        ensures { (all : Audited) (read : ℕ) (state : State) → IsAudited all
-            → Stands all read state self.old (S.left source.old)
-            → IsJudged all (λ told. L.Told lines.old told lines.new) state one.now result self.new (S.left source.new) }
+        ensures { (all : Audited) (read asked : ℕ) (state : State) → IsAudited all
+            → Stands all read state self.old (S.left source.old) → WasAsked all asked read
+            → IsJudged all (λ told. L.Told lines.old told lines.new) asked state one.now result self.new
+            (S.left source.new) }
     {
         match look(
             &mut self.window,
@@ -141,9 +142,10 @@ impl<A: Allocator> LiveAudit<A> {
 
     /// The same, where SENT was read as far as the message asks for.
     fn judge_looked<L: LiveLines>(&mut self, one: &Arrived, lines: &mut L) -> bool
-        ensures { (all : Audited) (read : ℕ) (state : State) (left : Left) → IsAudited all
+        ensures { (all : Audited) (read asked : ℕ) (state : State) (left : Left) → IsAudited all
             → Stands all read state self.old left → IsSettled all read state one.now
-            → IsJudged all (λ told. L.Told lines.old told lines.new) state one.now (Ok result) self.new left }
+            → WasAsked all (looked_to all state.front one.now.message.hart one.now.message.number asked) read
+            → IsJudged all (λ told. L.Told lines.old told lines.new) asked state one.now (Ok result) self.new left }
     {
         match self.window.judge(&one.message) {
             Judged::TooLate => {
@@ -170,18 +172,20 @@ impl<A: Allocator> LiveAudit<A> {
         second: &Message,
         source: &mut S,
     ) -> Result<bool, LookFault>
-        ensures { (all : Audited) (read : ℕ) (state : State) → IsAudited all
-            → Stands all read state self.old (S.left source.old)
-            → IsAsked all state (is_outage all.window all.sent state first.now second.now) result self.new
-            (S.left source.new) }
+        ensures { (all : Audited) (read asked : ℕ) (state : State) → IsAudited all
+            → Stands all read state self.old (S.left source.old) → WasAsked all asked read
+            → IsAsked all asked (doubted_to all state first.now second.now asked) state
+            (is_outage all.window all.sent state first.now second.now) result self.new (S.left source.new) }
     {
         is_outage(&mut self.window, source, first, second)
     }
 
     /// The next message of RECEIVED that is taken, or the next run of bytes between messages, `None` at the end. A message is
-    /// to be taken ([`LiveAudit::take`]) before the next call. Takes no memory.
+    /// to be taken ([`LiveAudit::take`]) before the next call. As many harts are to be known as those of the audit. Takes no
+    /// memory.
     ///
-    /// It fails if the bytes cannot be read on, or if SENT cannot, which is read as far as a message is looked up.
+    /// It fails if the bytes cannot be read on, or if SENT cannot, which is read only to look messages up. Then nothing of
+    /// RECEIVED is lost but bytes of a run that were passed over.
     pub fn next_received<R: FileReader, S: SentSource>(
         &mut self,
         received: &mut Received<A>,
@@ -195,7 +199,8 @@ impl<A: Allocator> LiveAudit<A> {
         ensures stands { (all : Audited) (read : ℕ) (state : State) (rest : List ℕ) → IsAudited all
             → Stands all read state self.old (S.left source.old) → IsLeft received.old (R.left reader.old) rest
             → received.old.offset + length rest < 2 ^ 64
-            → IfOk result (λ span. (more : ℕ) × Stands all more state self.new (S.left source.new)) }
+            → StandsOn all read state rest (sought_to received.old received.new) result self.new (S.left source.new) }
+        ensures receives { (harts : ℕ) → Receives harts received.old → OnOk result (Receives harts received.new) }
     {
         received.next(reader, &mut self.window, source)
     }
@@ -243,9 +248,10 @@ impl<A: Allocator> LiveAudit<A> {
         source: &mut S,
         lines: &mut L,
     ) -> Result<(), LookFault>
-        ensures { (all : Audited) (read : ℕ) (state : State) → IsAudited all
-            → Stands all read state self.old (S.left source.old) → NoneBefore all read hart number
-            → ReadsOn all (λ told. L.Told lines.old told lines.new) state hart number result self.new (S.left source.new) }
+        ensures { (all : Audited) (read asked : ℕ) (state : State) → IsAudited all
+            → Stands all read state self.old (S.left source.old) → WasAsked all asked read → NoneBefore all read hart number
+            → Went all (λ told. L.Told lines.old told lines.new) asked (reaching all state hart number asked) result self.new
+            (S.left source.new) }
     {
         for _ in 0..u64::MAX {
             match self.read_next(hart, number, source, lines) {
@@ -266,10 +272,10 @@ impl<A: Allocator> LiveAudit<A> {
         source: &mut S,
         lines: &mut L,
     ) -> Result<(), LookFault>
-        ensures { (all : Audited) (read : ℕ) (state : State) → IsAudited all
-            → Stands all read state self.old (S.left source.old)
-            → Went all (λ told. L.Told lines.old told lines.new)
-            (goes_on all.window all.sent state first.now second.now) result self.new (S.left source.new) }
+        ensures { (all : Audited) (read asked : ℕ) (state : State) → IsAudited all
+            → Stands all read state self.old (S.left source.old) → WasAsked all asked read
+            → Went all (λ told. L.Told lines.old told lines.new) asked (going_on all state first.now second.now asked) result
+            self.new (S.left source.new) }
     {
         match self.is_outage(first, second, source) {
             Ok(true) => self.read_on(usize::from(first.hart), first.number, source, lines),
@@ -285,11 +291,11 @@ impl<A: Allocator> LiveAudit<A> {
         source: &mut S,
         lines: &mut L,
     ) -> Result<(), LookFault>
-        ensures { (all : Audited) (read : ℕ) (state : State) (place : ℕ) → IsAudited all
-            → Stands all read state self.old (S.left source.old)
-            → Went all (λ told. L.Told lines.old told lines.new)
-            (settled all.window all.sent state (record { place = place; message = message.now })
-            (state.waiting message.now.hart)) result self.new (S.left source.new) }
+        ensures { (all : Audited) (read asked : ℕ) (state : State) (place : ℕ) → IsAudited all
+            → Stands all read state self.old (S.left source.old) → WasAsked all asked read
+            → Went all (λ told. L.Told lines.old told lines.new) asked
+            (settling all state (record { place = place; message = message.now }) (state.waiting message.now.hart) asked)
+            result self.new (S.left source.new) }
     {
         match take_waiting(&mut self.waiting, message.hart) {
             Some(first) => self.settle_first(&first, message, source, lines),
@@ -305,11 +311,12 @@ impl<A: Allocator> LiveAudit<A> {
         source: &mut S,
         lines: &mut L,
     ) -> Result<(), LookFault>
-        ensures { (all : Audited) (read : ℕ) (state : State) → IsAudited all
-            → Stands all read state self.old (S.left source.old)
-            → Went all (λ told. L.Told lines.old told lines.new)
-            (and_then (goes_on all.window all.sent state first.now.message message.now)
-            (λ next. judged strange all.window all.sent next first.now)) result self.new (S.left source.new) }
+        ensures { (all : Audited) (read asked : ℕ) (state : State) → IsAudited all
+            → Stands all read state self.old (S.left source.old) → WasAsked all asked read
+            → Went all (λ told. L.Told lines.old told lines.new) asked
+            (then_goes (going_on all state first.now.message message.now asked)
+            (λ next. looking all next first.now.message (judged strange all.window all.sent next first.now))) result self.new
+            (S.left source.new) }
     {
         match self.go_on(&first.message, message, source, lines) {
             Ok(()) => self.judge_last(first, source, lines),
@@ -324,10 +331,11 @@ impl<A: Allocator> LiveAudit<A> {
         source: &mut S,
         lines: &mut L,
     ) -> Result<(), LookFault>
-        ensures { (all : Audited) (read : ℕ) (state : State) → IsAudited all
-            → Stands all read state self.old (S.left source.old)
-            → Went all (λ told. L.Told lines.old told lines.new) (judged strange all.window all.sent state one.now) result
-            self.new (S.left source.new) }
+        ensures { (all : Audited) (read asked : ℕ) (state : State) → IsAudited all
+            → Stands all read state self.old (S.left source.old) → WasAsked all asked read
+            → Went all (λ told. L.Told lines.old told lines.new) asked
+            (looking all state one.now.message (judged strange all.window all.sent state one.now) asked) result self.new
+            (S.left source.new) }
     {
         match self.judge(one, source, lines) {
             Ok(true) => {
@@ -346,9 +354,9 @@ impl<A: Allocator> LiveAudit<A> {
         source: &mut S,
         lines: &mut L,
     ) -> Result<(), LookFault>
-        ensures { (all : Audited) (read : ℕ) (state : State) → IsAudited all
-            → Stands all read state self.old (S.left source.old) → one.message.hart < all.harts
-            → Went all (λ told. L.Told lines.old told lines.new) (taken all.window all.sent state one) result self.new
+        ensures { (all : Audited) (read asked : ℕ) (state : State) → IsAudited all
+            → Stands all read state self.old (S.left source.old) → WasAsked all asked read → one.message.hart < all.harts
+            → Went all (λ told. L.Told lines.old told lines.new) asked (taking all state one asked) result self.new
             (S.left source.new) }
     {
         match self.settle(&one.message, source, lines) {
@@ -364,10 +372,11 @@ impl<A: Allocator> LiveAudit<A> {
         source: &mut S,
         lines: &mut L,
     ) -> Result<(), LookFault>
-        ensures { (all : Audited) (read : ℕ) (state : State) → IsAudited all
-            → Stands all read state self.old (S.left source.old) → one.message.hart < all.harts
-            → Went all (λ told. L.Told lines.old told lines.new) (judged waits all.window all.sent state one) result
-            self.new (S.left source.new) }
+        ensures { (all : Audited) (read asked : ℕ) (state : State) → IsAudited all
+            → Stands all read state self.old (S.left source.old) → WasAsked all asked read → one.message.hart < all.harts
+            → Went all (λ told. L.Told lines.old told lines.new) asked
+            (looking all state one.message (judged waits all.window all.sent state one) asked) result self.new
+            (S.left source.new) }
     {
         match self.judge(&one, source, lines) {
             Ok(true) => {
@@ -382,8 +391,9 @@ impl<A: Allocator> LiveAudit<A> {
     /// Takes the next message of RECEIVED: what waits of its hart is decided, and then it is looked up itself. The lines
     /// of what is decided are handed over. Takes no memory.
     ///
-    /// If SENT cannot be read on, a beginning of these lines was handed over. How much of them, how far SENT is read, and
-    /// what a call after that does is in no clause.
+    /// SENT is read only to look the message up, and the one of its hart that waits: until it is found, SENT ends, or its number
+    /// less those of its hart that were read is not below the places left in view. If SENT cannot be read on, the lines up to
+    /// there were handed over. What a call after that does is in no clause.
     pub fn take<S: SentSource, L: LiveLines>(
         &mut self,
         one: Arrived,
@@ -392,8 +402,8 @@ impl<A: Allocator> LiveAudit<A> {
     ) -> Result<(), LookFault>
         ensures { (all : Audited) (read : ℕ) (state : State) → IsAudited all
             → Stands all read state self.old (S.left source.old)
-            → Went all (λ told. L.Told lines.old told lines.new) (taken_of all.harts all.window all.sent state one) result
-            self.new (S.left source.new) }
+            → Went all (λ told. L.Told lines.old told lines.new) read (taking_of all state one read) result self.new
+            (S.left source.new) }
     {
         if usize::from(one.message.hart) < self.waiting.len() {
             return self.take_known(one, source, lines);
@@ -441,7 +451,7 @@ impl<A: Allocator> LiveAudit<A> {
     ) -> Result<(), LookFault>
         ensures { (all : Audited) (read : ℕ) (state : State) → IsAudited all
             → Stands all read state self.old (S.left source.old)
-            → Ended all (λ told. L.Told lines.old told lines.new) state result }
+            → Ended all read (λ told. L.Told lines.old told lines.new) state result (S.left source.new) }
     {
         let harts = self.waiting.len();
         match self.read_on(harts, 0, source, lines) {

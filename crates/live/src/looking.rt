@@ -3,7 +3,8 @@
 ghost use Rattle.std.specs.Prelude.{ℕ, ◌≡◌, ◌+◌, ◌<◌, List, length};
 ghost use Rattle.auditing.specs.Fates.{is_numbered};
 ghost use Rattle.message.specs.declared.message.Message.{Message as AnyMessage};
-ghost use Rattle.live.specs.Following.{Audited, IsAudited, Looks, Reads};
+ghost use Rattle.live.specs.Course.{doubted_to};
+ghost use Rattle.live.specs.Following.{Audited, IsAudited, Looks, Reads, WasAsked, looked_to};
 ghost use Rattle.live.specs.Holds.{Holds};
 ghost use Rattle.live.specs.Live.{State, is_beyond, is_outage, standing_now};
 ghost use Rattle.live.specs.steps.Advancing.{IsFound};
@@ -88,10 +89,11 @@ fn is_beyond<A: Allocator, S: SentSource>(
     source: &mut S,
     message: &Message,
 ) -> Result<bool, LookFault>
-    ensures { (all : Audited) (read : ℕ) (state : State) → IsAudited all
+    ensures { (all : Audited) (read asked : ℕ) (state : State) → IsAudited all
         → Reads all read state.came state.front window.old (S.left source.old)
-        → IsFound all state (is_beyond (standing_now all.window all.sent state message.now)) result window.new
-        (S.left source.new) }
+        → WasAsked all asked read
+        → IsFound all asked (looked_to all state.front message.now.hart message.now.number asked) state
+        (is_beyond (standing_now all.window all.sent state message.now)) result window.new (S.left source.new) }
 {
     match look(window, source, message.hart, message.number) {
         Ok(()) => Ok(window.find(message.hart, message.number).is_beyond()),
@@ -106,10 +108,11 @@ pub(crate) fn is_outage<A: Allocator, S: SentSource>(
     first: &Message,
     second: &Message,
 ) -> Result<bool, LookFault>
-    ensures { (all : Audited) (read : ℕ) (state : State) → IsAudited all
+    ensures { (all : Audited) (read asked : ℕ) (state : State) → IsAudited all
         → Reads all read state.came state.front window.old (S.left source.old)
-        → IsFound all state (is_outage all.window all.sent state first.now second.now) result window.new
-        (S.left source.new) }
+        → WasAsked all asked read
+        → IsFound all asked (doubted_to all state first.now second.now asked) state
+        (is_outage all.window all.sent state first.now second.now) result window.new (S.left source.new) }
 {
     match is_beyond(window, source, first) {
         Ok(true) => match is_beyond(window, source, second) {

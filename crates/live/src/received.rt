@@ -6,9 +6,10 @@ ghost use Rattle.std.specs.Io.KnownBytes.{ReadConsumes};
 ghost use Rattle.frames.specs.Frame.{frame_in, frame_size, is_complete};
 ghost use Rattle.frames.specs.declared.span.Span.TheVariants as Span;
 ghost use Rattle.message.specs.declared.message.Message.{Message as AnyMessage};
-ghost use Rattle.live.specs.Following.{Audited, IsAudited};
+ghost use Rattle.live.specs.Following.{Audited, IsAudited, Reads};
 ghost use Rattle.live.specs.Received.{bytes_to_next, first_span, is_taken};
-ghost use Rattle.live.specs.ReceivedLeft.{Follows, IsBegun, FollowsOn, IsLeft, IsNextSpan, ReceivedHeld, rule_of};
+ghost use Rattle.live.specs.ReceivedLeft.{FollowsOn, IsBegun, IsLeft, IsNextSpan, ReceivedHeld, Receives, most_sought, rule_of};
+ghost use Rattle.live.specs.ReceivedLeft.{sought_to};
 ghost use Rattle.live.specs.steps.Receiving.{IsDecided, IsPassed, IsSure, ReadsSome};
 ghost use Rattle.frames.specs.Start.{first_place};
 
@@ -63,8 +64,9 @@ impl<A: Allocator> Model for Received<A> {
 impl<A: Allocator> Received<A> {
     /// Before the first byte is read, where so many harts are known. Memory is taken once: 29 bytes for each hart and 64 KiB.
     pub fn new(alloc: A, harts: u16) -> Result<Received<A>, AllocError>
-        ensures { IfOk result (λ own. (own.harts ≡ harts) × (own.offset ≡ 0)
+        ensures empty { IfOk result (λ own. (own.harts ≡ harts) × (own.offset ≡ 0)
             × (own.bytes ≡ []) × (own.ended ≡ false)) }
+        ensures receives { IfOk result (Receives harts) }
     {
         let most = (usize::from(harts) + 3) * MOST_SIZE + BLOCK_BYTES;
         Ok(Received {
@@ -79,7 +81,8 @@ impl<A: Allocator> Received<A> {
 
     /// The bytes that are held.
     fn held(&self) -> &[u8]
-        ensures { result.now ≡ self.now.bytes }
+        ensures value { result.now ≡ self.now.bytes }
+        ensures few { length self.now.bytes ≤ self.now.most }
     {
         &self.buffer[self.start..self.end]
     }
@@ -92,6 +95,7 @@ impl<A: Allocator> Received<A> {
         ensures harts { self.new.harts ≡ self.old.harts }
         ensures ended { self.new.ended ≡ self.old.ended }
         ensures most { self.new.most ≡ self.old.most }
+        ensures few { length self.new.bytes ≤ self.new.most }
     {
         self.start += count;
         self.offset = self.offset.wrapping_add(count);
@@ -117,6 +121,7 @@ impl<A: Allocator> Received<A> {
             → ReadsSome rest result self.new (R.left reader.new) }
         ensures harts { self.new.harts ≡ self.old.harts }
         ensures offset { self.new.offset ≡ self.old.offset }
+        ensures most { self.new.most ≡ self.old.most }
     {
         self.make_place();
         self.read_on(reader)
@@ -129,6 +134,7 @@ impl<A: Allocator> Received<A> {
             → ReadsSome rest result self.new (R.left reader.new) }
         ensures harts { self.new.harts ≡ self.old.harts }
         ensures offset { self.new.offset ≡ self.old.offset }
+        ensures most { self.new.most ≡ self.old.most }
     {
         match read_after(reader, &mut self.buffer, self.end) {
             Ok(0) => {
@@ -150,6 +156,7 @@ impl<A: Allocator> Received<A> {
         ensures start { OnOk result (self.new.ended ≡ false → 16 ≤ length self.new.bytes) }
         ensures harts { self.new.harts ≡ self.old.harts }
         ensures offset { self.new.offset ≡ self.old.offset }
+        ensures most { self.new.most ≡ self.old.most }
     {
         for _ in 0..u64::MAX {
             if self.ended || self.end - self.start >= HEADER_SIZE {
@@ -172,6 +179,7 @@ impl<A: Allocator> Received<A> {
         ensures offset { self.old.offset ≡ 0
             → IfOk result (λ start. self.new.offset ≡ first_place start.header) }
         ensures harts { self.new.harts ≡ self.old.harts }
+        ensures receives { (harts : ℕ) → Receives harts self.old → OnOk result (Receives harts self.new) }
     {
         match self.read_start(reader) {
             Ok(()) => {}
@@ -190,13 +198,15 @@ impl<A: Allocator> Received<A> {
         window: &mut Window<B>,
         source: &mut S,
     ) -> Result<bool, ReceivedFault>
-        ensures decided { (all : Audited) (came : List AnyMessage) (front : ℕ) (rest : List ℕ) → IsAudited all
-            → Follows all came front window.old (S.left source.old) → IsLeft self.old (R.left reader.old) rest
-            → IsDecided all came front (is_taken (rule_of self.old.harts all front) astray) rest result self.new
-            (R.left reader.new) window.new (S.left source.new) }
+        ensures decided { (all : Audited) (came : List AnyMessage) (front first : ℕ) (rest : List ℕ) → IsAudited all
+            → Reads all first came front window.old (S.left source.old) → IsLeft self.old (R.left reader.old) rest
+            → IsDecided all came front first (is_taken (rule_of self.old.harts all front) astray) rest
+            (most_sought self.old.harts) result self.new (R.left reader.new) window.new (S.left source.new) }
         ensures sure { IfOk result (IsSure self.new.bytes self.new.ended) }
         ensures harts { self.new.harts ≡ self.old.harts }
         ensures offset { self.new.offset ≡ self.old.offset }
+        ensures most { self.new.most ≡ self.old.most }
+        ensures few { OnOk result (length self.new.bytes ≤ self.new.most) }
     {
         for _ in 0..u64::MAX {
             match is_taken(self.held(), self.ended, astray, self.harts, window, source) {
@@ -221,11 +231,14 @@ impl<A: Allocator> Received<A> {
         source: &mut S,
     ) -> Result<usize, ReceivedFault>
         requires { 1 ≤ length self.old.bytes }
-        ensures decided { (all : Audited) (came : List AnyMessage) (front : ℕ) (rest : List ℕ) → IsAudited all
-            → Follows all came front window.old (S.left source.old) → IsLeft self.old (R.left reader.old) rest
+        ensures decided { (all : Audited) (came : List AnyMessage) (front first : ℕ) (rest : List ℕ) → IsAudited all
+            → Reads all first came front window.old (S.left source.old) → IsLeft self.old (R.left reader.old) rest
             → self.old.offset + length rest < 2 ^ 64
-            → IsPassed all came front (bytes_to_next (rule_of self.old.harts all front) (drop 1 rest) + 1) self.old rest result
-            self.new (R.left reader.new) window.new (S.left source.new) }
+            → IsPassed all came front first (bytes_to_next (rule_of self.old.harts all front) (drop 1 rest) + 1) self.old rest
+            result self.new (R.left reader.new) window.new (S.left source.new) }
+        ensures harts { self.new.harts ≡ self.old.harts }
+        ensures most { self.new.most ≡ self.old.most }
+        ensures few { OnOk result (length self.new.bytes ≤ self.new.most) }
     {
         let mut count = 0usize;
         for _ in 0..u64::MAX {
@@ -252,14 +265,15 @@ impl<A: Allocator> Received<A> {
         window: &mut Window<B>,
         source: &mut S,
     ) -> Result<Option<Span>, ReceivedFault>
-        ensures span { (all : Audited) (came : List AnyMessage) (front : ℕ) (rest : List ℕ) → IsAudited all
-            → Follows all came front window.old (S.left source.old) → IsLeft self.old (R.left reader.old) rest
+        ensures span { (all : Audited) (came : List AnyMessage) (front first : ℕ) (rest : List ℕ) → IsAudited all
+            → Reads all first came front window.old (S.left source.old) → IsLeft self.old (R.left reader.old) rest
             → self.old.offset + length rest < 2 ^ 64
             → IsNextSpan all front self.old rest result self.new (R.left reader.new) }
-        ensures follows { (all : Audited) (came : List AnyMessage) (front : ℕ) (rest : List ℕ) → IsAudited all
-            → Follows all came front window.old (S.left source.old) → IsLeft self.old (R.left reader.old) rest
+        ensures follows { (all : Audited) (came : List AnyMessage) (front first : ℕ) (rest : List ℕ) → IsAudited all
+            → Reads all first came front window.old (S.left source.old) → IsLeft self.old (R.left reader.old) rest
             → self.old.offset + length rest < 2 ^ 64
-            → FollowsOn all came front result window.new (S.left source.new) }
+            → FollowsOn all came front first rest (sought_to self.old self.new) result window.new (S.left source.new) }
+        ensures receives { (harts : ℕ) → Receives harts self.old → OnOk result (Receives harts self.new) }
     {
         let offset = self.offset;
         match self.is_taken(false, reader, window, source) {
@@ -286,6 +300,8 @@ impl<A: Allocator> Received<A> {
             → self.new.offset ≡ self.old.offset + frame_size self.old.bytes }
         ensures harts { self.new.harts ≡ self.old.harts }
         ensures ended { self.new.ended ≡ self.old.ended }
+        ensures most { self.new.most ≡ self.old.most }
+        ensures few { length self.new.bytes ≤ self.new.most }
     {
         let offset = self.offset;
         let (Some(size), Some(message)) = (message_size(self.held()), message_in(self.held()))

@@ -1,13 +1,13 @@
 //! What is seen of a message before it is taken.
 
-ghost use Rattle.std.specs.Prelude.{◌≡◌, ◌≢◌, ℕ, IfErr, List, slice_get};
+ghost use Rattle.std.specs.Prelude.{◌≡◌, ◌≢◌, ℕ, IfErr, List, Some, slice_get};
 ghost use Rattle.message.specs.declared.message.Message.{Message as AnyMessage};
-ghost use Rattle.live.specs.Following.{Audited, IsAudited};
+ghost use Rattle.live.specs.Following.{Audited, IsAudited, Reads};
 ghost use Rattle.live.specs.Holds.{Holds};
+ghost use Rattle.frames.specs.Frame.{message_in};
 ghost use Rattle.frames.specs.GuidedTaken.{is_counted, is_same};
 ghost use Rattle.live.specs.Received.{is_seen_beyond, seen_at, seen_of, sight_of};
 ghost use Rattle.live.specs.View.{in_view, standing_of};
-ghost use Rattle.live.specs.ReceivedLeft.{Follows};
 ghost use Rattle.live.specs.steps.Receiving.{Settles, seen_slot};
 
 use crate::fault::LookFault;
@@ -111,10 +111,11 @@ pub(crate) fn see<A: Allocator, S: SentSource>(
     source: &mut S,
     message: &Message,
 ) -> Result<Seen, Pause>
-    ensures settles { (all : Audited) (came : List AnyMessage) (front : ℕ) → IsAudited all
-        → Follows all came front window.old (S.left source.old)
-        → Settles all came front (λ seen. seen ≡ seen_of all.by all.harts all.window all.sent front message.now) result
-        window.new (S.left source.new) }
+    ensures settles { (all : Audited) (came : List AnyMessage) (front first : ℕ) (bytes : List ℕ) → IsAudited all
+        → Reads all first came front window.old (S.left source.old) → Some message.now ≡ message_in bytes
+        → Settles all came front first bytes 1
+        (λ seen. seen ≡ seen_of all.by all.harts all.window all.sent front message.now) result window.new
+        (S.left source.new) }
     ensures never_bytes { IfErr result (λ why. why ≢ Pause.Bytes) }
 {
     if !window.is_known(message.hart) {

@@ -5,9 +5,9 @@ ghost use Rattle.std.specs.Prelude.{drop, false, length, take, true};
 ghost use Rattle.frames.specs.Frame.{is_complete, message_in, message_size};
 ghost use Rattle.frames.specs.GuidedTaken.{ends_or_begins};
 ghost use Rattle.message.specs.declared.message.Message.{Message as AnyMessage};
-ghost use Rattle.live.specs.Following.{Audited, IsAudited};
+ghost use Rattle.live.specs.Following.{Audited, IsAudited, Reads};
 ghost use Rattle.live.specs.Received.{are_next, begins_row, is_kept, is_taken, is_taken_anywhere, messages_from, number_among};
-ghost use Rattle.live.specs.ReceivedLeft.{Follows, rule_of};
+ghost use Rattle.live.specs.ReceivedLeft.{most_sought, rule_of};
 ghost use Rattle.live.specs.steps.Receiving.{IsFew, IsSure, Says, Settles, near_by, row_by, seen_first};
 
 use crate::received_seen::{Pause, Seen, see};
@@ -48,10 +48,11 @@ fn see_at<A: Allocator, S: SentSource>(
     window: &mut Window<A>,
     source: &mut S,
 ) -> Result<Seen, Pause>
-    ensures settles { (all : Audited) (came : List AnyMessage) (front : ℕ) → IsAudited all
-        → Follows all came front window.old (S.left source.old)
-        → Settles all came front (λ seen. seen ≡ seen_first (rule_of harts all front).sees (message_in bytes.now)) result
-        window.new (S.left source.new) }
+    ensures settles { (all : Audited) (came : List AnyMessage) (front first : ℕ) → IsAudited all
+        → Reads all first came front window.old (S.left source.old)
+        → Settles all came front first bytes.now 1
+        (λ seen. seen ≡ seen_first (rule_of harts all front).sees (message_in bytes.now)) result window.new
+        (S.left source.new) }
     ensures never_bytes { IfErr result (λ why. why ≢ Pause.Bytes) }
 {
     match message_in(bytes) {
@@ -94,10 +95,10 @@ fn row_ends<A: Allocator, S: SentSource>(
     source: &mut S,
 ) -> Result<Option<bool>, Pause>
     requires { at ≤ length bytes.now }
-    ensures settles { (all : Audited) (came : List AnyMessage) (front : ℕ) → IsAudited all
-        → Follows all came front window.old (S.left source.old)
-        → Settles all came front (λ is. is ≡ row_by (rule_of harts all front) (take count (messages_from bytes.now))
-        (message_in (drop at bytes.now))) result window.new (S.left source.new) }
+    ensures settles { (all : Audited) (came : List AnyMessage) (front first : ℕ) → IsAudited all
+        → Reads all first came front window.old (S.left source.old)
+        → Settles all came front first bytes.now (at + 1) (λ is. is ≡ row_by (rule_of harts all front)
+        (take count (messages_from bytes.now)) (message_in (drop at bytes.now))) result window.new (S.left source.new) }
     ensures never_bytes { IfErr result (λ why. why ≢ Pause.Bytes) }
 {
     match see_at(&bytes[at..], harts, window, source) {
@@ -139,10 +140,10 @@ fn begins_row<A: Allocator, S: SentSource>(
     window: &mut Window<A>,
     source: &mut S,
 ) -> Result<bool, Pause>
-    ensures settles { (all : Audited) (came : List AnyMessage) (front : ℕ) → IsAudited all
-        → Follows all came front window.old (S.left source.old)
-        → Settles all came front (Says (begins_row (rule_of harts all front)) bytes.now ended) result
-        window.new (S.left source.new) }
+    ensures settles { (all : Audited) (came : List AnyMessage) (front first : ℕ) → IsAudited all
+        → Reads all first came front window.old (S.left source.old)
+        → Settles all came front first bytes.now (most_sought harts) (Says (begins_row (rule_of harts all front)) bytes.now ended)
+        result window.new (S.left source.new) }
     ensures few { IfErr result (IsFew ended (length bytes.now) (29 * (harts + 1))) }
 {
     let mut at = 0;
@@ -169,10 +170,10 @@ fn is_taken_anywhere<A: Allocator, S: SentSource>(
     window: &mut Window<A>,
     source: &mut S,
 ) -> Result<bool, Pause>
-    ensures settles { (all : Audited) (came : List AnyMessage) (front : ℕ) → IsAudited all
-        → Follows all came front window.old (S.left source.old)
-        → Settles all came front (Says (is_taken_anywhere (rule_of harts all front)) bytes.now ended) result
-        window.new (S.left source.new) }
+    ensures settles { (all : Audited) (came : List AnyMessage) (front first : ℕ) → IsAudited all
+        → Reads all first came front window.old (S.left source.old)
+        → Settles all came front first bytes.now (most_sought harts) (Says (is_taken_anywhere (rule_of harts all front)) bytes.now ended)
+        result window.new (S.left source.new) }
     ensures sure { IfOk result (IsSure bytes.now ended) }
     ensures few { IfErr result (IsFew ended (length bytes.now) (29 * (harts + 1))) }
 {
@@ -217,10 +218,10 @@ fn are_next<A: Allocator, S: SentSource>(
     window: &mut Window<A>,
     source: &mut S,
 ) -> Result<bool, Pause>
-    ensures settles { (all : Audited) (came : List AnyMessage) (front : ℕ) → IsAudited all
-        → Follows all came front window.old (S.left source.old)
-        → Settles all came front (Says (are_next (rule_of harts all front)) bytes.now ended) result
-        window.new (S.left source.new) }
+    ensures settles { (all : Audited) (came : List AnyMessage) (front first : ℕ) → IsAudited all
+        → Reads all first came front window.old (S.left source.old)
+        → Settles all came front first bytes.now 1 (Says (are_next (rule_of harts all front)) bytes.now ended)
+        result window.new (S.left source.new) }
     ensures few { IfErr result (IsFew ended (length bytes.now) 58) }
 {
     if ended && bytes.is_empty() {
@@ -251,10 +252,10 @@ fn is_kept<A: Allocator, S: SentSource>(
     window: &mut Window<A>,
     source: &mut S,
 ) -> Result<bool, Pause>
-    ensures settles { (all : Audited) (came : List AnyMessage) (front : ℕ) → IsAudited all
-        → Follows all came front window.old (S.left source.old)
-        → Settles all came front (Says (is_kept (rule_of harts all front)) bytes.now ended) result
-        window.new (S.left source.new) }
+    ensures settles { (all : Audited) (came : List AnyMessage) (front first : ℕ) → IsAudited all
+        → Reads all first came front window.old (S.left source.old)
+        → Settles all came front first bytes.now (most_sought harts) (Says (is_kept (rule_of harts all front)) bytes.now ended)
+        result window.new (S.left source.new) }
     ensures sure { result ≡ Ok true → is_complete bytes.now ≡ true }
     ensures few { IfErr result (IsFew ended (length bytes.now) 87) }
 {
@@ -275,10 +276,10 @@ pub(crate) fn is_taken<A: Allocator, S: SentSource>(
     window: &mut Window<A>,
     source: &mut S,
 ) -> Result<bool, Pause>
-    ensures settles { (all : Audited) (came : List AnyMessage) (front : ℕ) → IsAudited all
-        → Follows all came front window.old (S.left source.old)
-        → Settles all came front (Says (is_taken (rule_of harts all front) astray) bytes.now ended) result
-        window.new (S.left source.new) }
+    ensures settles { (all : Audited) (came : List AnyMessage) (front first : ℕ) → IsAudited all
+        → Reads all first came front window.old (S.left source.old)
+        → Settles all came front first bytes.now (most_sought harts)
+        (Says (is_taken (rule_of harts all front) astray) bytes.now ended) result window.new (S.left source.new) }
     ensures sure { IfOk result (IsSure bytes.now ended) }
     ensures few { IfErr result (IsFew ended (length bytes.now) (29 * (harts + 3))) }
 {

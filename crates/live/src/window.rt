@@ -153,11 +153,13 @@ impl<A: Allocator> Window<A> {
     pub fn wants(&self, hart: u16, number: u64) -> bool
         ensures wanted { (sent came : List AnyMessage) (front : ℕ) → Holds sent came front self.now
             → result ≡ is_wanted (length self.now.harts) self.now.window sent front hart number }
+        ensures few { self.now.window ≤ 16777216 }
         ensures settled { (sent came more : List AnyMessage) (front : ℕ) → Holds sent came front self.now
             → AreInTurn (length self.now.harts) [] (sent ++ more) → result ≡ false
             → standing_of self.now.window (sent ++ more) front hart number
             ≡ standing_of self.now.window sent front hart number }
     {
+        let _ = &self.window;
         self.wants_by(hart, number)
     }
 

@@ -2,6 +2,7 @@ pub mod AuditRuns
 pub mod AuditSteps
 pub mod ByHartLemmas
 pub mod ReceivedCapture
+pub mod FollowedRuns
 pub mod Formats
 pub mod HartLines
 pub mod MatchedLines

@@ -1,5 +1,5 @@
 -- Sums of what rows count, hart by hart.
-use Rattle.std.proofs.Common.{◌≡◌, ℕ, ◌+◌, ◌-◌, ◌*◌, ◌^◌, ◌<◌, ◌≤◌, List, refl, sym, ap, ◌∙◌, arith, add-zero, zero-add}
+use Rattle.std.proofs.Common.{◌≡◌, ℕ, ◌+◌, ◌-◌, ◌*◌, ◌^◌, ◌<◌, ◌≤◌, List, refl, sym, ap, ◌∙◌, arith, add-zero, zero-add, None}
 use Rattle.std.specs.Prelude.{◌&&◌}
 use Rattle.std.specs.List.{list_all, range_with_len, sum_by}
 use Rattle.std.proofs.lemmas.List.Sums.{sum_by-cons}
@@ -61,6 +61,7 @@ pub record IsTotal (sent received : List Message) (total : Total) (from hart har
   late_is : IsSum (λ h. (row_of sent received h).tally.late) total.late from hart harts
   changed_is : IsSum (λ h. (row_of sent received h).tally.changed) total.changed from hart harts
   strange_is : IsSum (λ h. (row_of sent received h).strange) total.strange from hart harts
+  none_late : total.too_late ≡ None
   whole_is : (total.whole && list_all (λ h. (tally_of sent received h).whole) (range_with_len hart (harts - hart)))
       ≡ are_whole sent received (range_with_len from (harts - from))
 
@@ -73,6 +74,7 @@ total_none sent received from harts = record {
   late_is = sum_none _ from harts;
   changed_is = sum_none _ from harts;
   strange_is = sum_none _ from harts;
+  none_late = refl;
   whole_is = refl;
 }
 
@@ -110,6 +112,7 @@ total_more sent received total from hart harts within few rows has = record {
   late_is = sum_more _ total.late from hart harts within few rows.late has.late_is;
   changed_is = sum_more _ total.changed from hart harts within few rows.changed has.changed_is;
   strange_is = sum_more _ total.strange from hart harts within few rows.strange has.strange_is;
+  none_late = has.none_late;
   whole_is =
       sym (tested_more (λ h. (tally_of sent received h).whole) total.whole hart harts within) ∙ has.whole_is;
 }
@@ -124,5 +127,6 @@ total_all sent received total from hart harts past has = λ i. record {
   late = sum_all _ total.late from hart harts past has.late_is i;
   changed = sum_all _ total.changed from hart harts past has.changed_is i;
   strange = sum_all _ total.strange from hart harts past has.strange_is i;
+  too_late = has.none_late i;
   whole = (sym (tested_all (λ h. (tally_of sent received h).whole) total.whole hart harts past) ∙ has.whole_is) i;
 }

@@ -1,5 +1,5 @@
 -- The lines of an audit as text.
-use Rattle.std.specs.Prelude.{ℕ, ◌==◌, ◌||◌, ◌++◌, nat_lt, not, Bool, true, false, if◌then◌else◌, List, [], Option}
+use Rattle.std.specs.Prelude.{ℕ, ◌+◌, ◌-◌, ◌^◌, ◌==◌, ◌||◌, ◌++◌, min, nat_lt, unwrap_or, not, Bool, true, false, if◌then◌else◌, List, [], Option}
 use Rattle.std.specs.Prelude.{Some, None, codes}
 use Rattle.std.specs.Fmt.{decimal}
 use Rattle.std.specs.List.{list_all, sum_by}
@@ -58,9 +58,17 @@ abbrev pub verdict_text : Bool → List ℕ
 verdict_text true = codes "whole"
 verdict_text false = codes "not whole"
 
--- What the row of a hart counts.
-abbrev pub row_total : HartRow → Total
-row_total row = record {
+-- So many more, where there may be so many already.
+abbrev pub and_too_late : Option ℕ → ℕ → Option ℕ
+and_too_late before count = Some (min (unwrap_or before 0 + count) (2 ^ 128 - 1))
+
+-- The same counts, of a live audit in which so many messages more were too late.
+abbrev pub with_too_late : Total → ℕ → Total
+with_too_late total count = record total { too_late = and_too_late total.too_late count }
+
+-- What the row of a hart counts in an audit.
+abbrev pub counted_total : HartRow → Total
+counted_total row = record {
   sent = row.tally.sent;
   came = row.tally.came;
   lost = row.tally.lost;
@@ -68,17 +76,29 @@ row_total row = record {
   late = row.tally.late;
   changed = row.tally.changed;
   strange = row.strange;
+  too_late = None;
   whole = row.tally.whole;
 }
 
+-- What the row of a hart counts, where so many messages were too late in a live audit.
+abbrev pub row_total : HartRow → Option ℕ → Total
+row_total row None = counted_total row
+row_total row (Some count) = with_too_late (counted_total row) count
+
+-- How many messages were too late, in a live audit.
+abbrev pub too_late_text : Option ℕ → List ℕ
+too_late_text None = []
+too_late_text (Some count) = decimal count ++ codes " too late, "
+
 -- How many messages were sent and came, how many numbers are lost, how many messages were repeated, late, changed and
--- strange, and whether all is whole.
+-- strange, in a live audit how many were too late, and whether all is whole.
 abbrev pub counts_text : Total → List ℕ
 counts_text total =
     decimal total.sent ++ (codes " sent, " ++ (decimal total.came ++ (codes " came, "
     ++ (decimal total.lost ++ (codes " lost, " ++ (decimal total.repeated ++ (codes " repeated, "
     ++ (decimal total.late ++ (codes " late, " ++ (decimal total.changed ++ (codes " changed, "
-    ++ (decimal total.strange ++ (codes " strange, " ++ (verdict_text total.whole ++ codes "\n"))))))))))))))
+    ++ (decimal total.strange ++ (codes " strange, " ++ (too_late_text total.too_late ++ (verdict_text total.whole
+    ++ codes "\n")))))))))))))))
 
 -- The line of the runs of a hart's lost numbers, where there are any.
 abbrev pub runs_line : ℕ → ℕ → ℕ → List ℕ
@@ -100,11 +120,11 @@ exchanged_line hart (Some its) =
     codes "hart " ++ (decimal hart ++ (codes ": " ++ (decimal its.count ++ (codes " of what came is hart "
     ++ (decimal its.hart ++ codes "'s\n")))))
 
--- The lines of a hart: its counts, the runs of its lost numbers, the most by which one of its messages is late, and whose
--- most of those are that are not true.
-abbrev pub row_text : ℕ → HartRow → List ℕ
-row_text hart row =
-    codes "hart " ++ (decimal hart ++ (codes ": " ++ (counts_text (row_total row)
+-- The lines of a hart: its counts, in a live audit with how many messages were too late, the runs of its lost numbers, the
+-- most by which one of its messages is late, and whose most of those are that are not true.
+abbrev pub row_text : ℕ → HartRow → Option ℕ → List ℕ
+row_text hart row too_late =
+    codes "hart " ++ (decimal hart ++ (codes ": " ++ (counts_text (row_total row too_late)
     ++ (runs_line hart row.runs row.longest ++ (late_line hart row.latest ++ exchanged_line hart row.exchanged)))))
 
 -- The line of strangers, where there are any.
@@ -174,5 +194,6 @@ total_of sent received harts = record {
   late = sum_of (λ row. row.tally.late) sent received harts;
   changed = sum_of (λ row. row.tally.changed) sent received harts;
   strange = sum_of (λ row. row.strange) sent received harts;
+  too_late = None;
   whole = are_whole sent received harts;
 }

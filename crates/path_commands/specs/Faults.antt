@@ -13,7 +13,7 @@ use Rattle.command_inputs.specs.declared.fault.Fault.TheVariants as fault
 use Rattle.command_inputs.specs.declared.status.Status.{Status}
 use Rattle.command_inputs.specs.declared.status.Status.TheVariants.{NotWhole, Refused}
 use Rattle.path_commands.specs.declared.reason.PathReason.{PathReason}
-use Rattle.path_commands.specs.declared.reason.PathReason.TheVariants.{Damaged, NoHart, Sent}
+use Rattle.path_commands.specs.declared.reason.PathReason.TheVariants.{Damaged, LiveTable, LiveUnnumbered, NoHart, Sent, WindowAlone}
 
 -- A fault of `audit`.
 abbrev pub Fault : Type 0
@@ -36,6 +36,9 @@ Once Finds Holds = finding.Once Finds Holds
 abbrev pub path_reason_status : PathReason → Status
 path_reason_status (Sent path why) = Refused
 path_reason_status (NoHart path harts) = Refused
+path_reason_status LiveUnnumbered = Refused
+path_reason_status LiveTable = Refused
+path_reason_status WindowAlone = Refused
 path_reason_status (Damaged path) = NotWhole
 
 -- The status at a fault.

@@ -11,6 +11,8 @@ pub mod Unnumbered
 pub mod AlignedRows
 pub mod MatchedRows
 pub mod ReadBack
+pub mod LiveText
+pub mod Followed
 pub mod Audited
 pub mod DecodedLogs
 pub mod steps

@@ -109,13 +109,13 @@ exchanged_row hart None = []
 exchanged_row hart (Some its) = fields_line (exchanged_fields hart its)
 
 -- The row of a hart, and the one of the hart whose most of its messages are that are not true.
-abbrev pub hart_row : Format → ℕ → HartRow → List ℕ
-hart_row format hart row =
-    row_in format (row_text hart row) (fields_line (hart_fields hart row) ++ exchanged_row hart row.exchanged)
+abbrev pub hart_row : Format → ℕ → HartRow → Option ℕ → List ℕ
+hart_row format hart row too_late =
+    row_in format (row_text hart row too_late) (fields_line (hart_fields hart row) ++ exchanged_row hart row.exchanged)
 
 -- The rows of these harts.
 abbrev pub hart_rows : Format → List Message → List Message → List ℕ → List ℕ
-hart_rows format sent received harts = flat_map (λ hart. hart_row format hart (row_of sent received hart)) harts
+hart_rows format sent received harts = flat_map (λ hart. hart_row format hart (row_of sent received hart) None) harts
 
 -- What is found of all messages together. Messages are compared by what their payloads are known by. Those of the harts
 -- that are asked for count alone, but RECEIVED has the messages of all.

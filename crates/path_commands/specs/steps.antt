@@ -1,4 +1,5 @@
 pub mod Ending
+pub mod Following
 pub mod Reading
 pub mod Noting
 pub mod Summing

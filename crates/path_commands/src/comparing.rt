@@ -208,6 +208,7 @@ fn write_rows<O: Write>(path: &Audit<'_>, report: Report, out: &mut O) -> io::Re
             format: report.format,
             hart,
             row,
+            too_late: None,
         };
         write_text(out, text)?;
     }

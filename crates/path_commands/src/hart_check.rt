@@ -28,7 +28,11 @@ pub(crate) fn received_of<'a, F: Files>(
 }
 
 /// Stops where SENT, which has so many harts, has none of those that are asked for.
-fn check_hart<'a>(asked: &Asked<'a>, harts: HartRange, count: usize) -> Result<(), Fault<'a>>
+pub(crate) fn check_hart<'a>(
+    asked: &Asked<'a>,
+    harts: HartRange,
+    count: usize,
+) -> Result<(), Fault<'a>>
     ensures { HasHart asked.now.sent asked.now.only harts count result }
 {
     match asked.only {

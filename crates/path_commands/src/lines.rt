@@ -2,6 +2,7 @@
 
 ghost use Rattle.std.specs.Prelude.{Some, option_map};
 ghost use Rattle.path_commands.specs.AuditText.{counts_text, exchanged_line, finding_text, late_line, runs_line};
+ghost use Rattle.path_commands.specs.AuditText.{too_late_text};
 
 use crate::ending::verdict_text;
 use crate::total::Total;
@@ -51,12 +52,28 @@ impl fmt::Display for CountsText {
         let late = self.0.late;
         let changed = self.0.changed;
         let strange = self.0.strange;
+        let too_late = TooLateText(self.0.too_late);
         let verdict = verdict_text(self.0.whole);
         write!(f, "{sent} sent, {came} came, {lost} lost, ")?;
         write!(
             f,
-            "{repeated} repeated, {late} late, {changed} changed, {strange} strange, {verdict}\n"
+            "{repeated} repeated, {late} late, {changed} changed, {strange} strange, {too_late}{verdict}\n"
         )
+    }
+}
+
+/// How many messages were too late, in a live audit.
+#[derive(Clone, Copy)]
+struct TooLateText(Option<u128>);
+
+impl fmt::Display for TooLateText {
+    ghost output = { λ text. Some (too_late_text text.0) };
+
+    fn fmt<W: fmt::Write>(&self, f: &mut fmt::Formatter<W>) -> fmt::Result {
+        match self.0 {
+            Some(count) => write!(f, "{count} too late, "),
+            None => f.write_str(""),
+        }
     }
 }
 

@@ -1,7 +1,7 @@
 //! What is found of the messages of some harts of RECEIVED.
 
 ghost use Rattle.std.specs.Prelude.{◌≡◌};
-ghost use Rattle.path_commands.specs.steps.Noting.{noted_after, strangers_after};
+ghost use Rattle.path_commands.specs.steps.Noting.{noted_after, noted_at, noted_with, strangers_after};
 
 use auditing::Finding;
 
@@ -34,6 +34,35 @@ impl Noted {
         Noted {
             strangers: strangers_after(self.strangers, finding),
             first,
+        }
+    }
+
+    /// After one message more of a live audit, of which this is found at this place. They come in any order.
+    pub(crate) fn with(self, place: u64, finding: Finding) -> Noted
+        ensures { result ≡ noted_with self place finding }
+    {
+        let noted = Noted {
+            strangers: strangers_after(self.strangers, finding),
+            first: self.first,
+        };
+        if finding.is_plain() {
+            noted
+        } else {
+            noted.with_place(place)
+        }
+    }
+
+    /// After one message more that has a line, at this place.
+    pub(crate) fn with_place(self, place: u64) -> Noted
+        ensures { result ≡ noted_at self place }
+    {
+        let first = match self.first {
+            Some(other) => other.min(place),
+            None => place,
+        };
+        Noted {
+            strangers: self.strangers,
+            first: Some(first),
         }
     }
 }

@@ -21,6 +21,12 @@ pub enum PathReason<'a> {
     Sent(&'a str, SentFault),
     /// SENT, at this path, has none of these harts.
     NoHart(&'a str, HartRange),
+    /// The numbers of what arrives are not to be looked at, and messages are to be compared while they come.
+    LiveUnnumbered,
+    /// A table is asked for, and messages are to be compared while they come.
+    LiveTable,
+    /// A window is given, and messages are not to be compared while they come.
+    WindowAlone,
 }
 
 impl fmt::Display for PathReason<'_> {
@@ -31,6 +37,9 @@ impl fmt::Display for PathReason<'_> {
             PathReason::Damaged(path) => write!(f, "{path}: {}", MessageFault::BadHeader),
             PathReason::Sent(path, why) => write!(f, "{path}: {why}"),
             PathReason::NoHart(path, harts) => write!(f, "{path}: no hart of {harts}"),
+            PathReason::LiveUnnumbered => f.write_str("--unnumbered does not go with --live"),
+            PathReason::LiveTable => f.write_str("--format csv does not go with --live"),
+            PathReason::WindowAlone => f.write_str("--window needs --live"),
         }
     }
 }
@@ -43,7 +52,7 @@ impl Reason for PathReason<'_> {
     fn status(&self) -> Status {
         match self {
             PathReason::Damaged(_) => Status::NotWhole,
-            PathReason::Sent(..) | PathReason::NoHart(..) => Status::Refused,
+            _ => Status::Refused,
         }
     }
 

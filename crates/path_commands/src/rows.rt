@@ -1,6 +1,7 @@
 //! The rows of an audit by the numbers, each of them as text or as CSV.
 
-ghost use Rattle.std.specs.Prelude.{Some, option_map};
+ghost use Rattle.std.specs.Prelude.{◌≡◌, Some, option_map};
+ghost use Rattle.path_commands.specs.AuditText.{row_total};
 ghost use Rattle.path_commands.specs.Rows.{ending_row, front_row, hart_row, message_row, run_row};
 
 use crate::ending::{Ending, EndingLines, verdict_text};
@@ -114,10 +115,12 @@ pub(crate) struct CountsRow {
     pub(crate) format: Format,
     pub(crate) hart: usize,
     pub(crate) row: HartRow,
+    /// How many of its messages were too late, in a live audit.
+    pub(crate) too_late: Option<u64>,
 }
 
 impl fmt::Display for CountsRow {
-    ghost output = { λ own. Some (hart_row own.format own.hart own.row) };
+    ghost output = { λ own. Some (hart_row own.format own.hart own.row own.too_late) };
 
     fn fmt<W: fmt::Write>(&self, f: &mut fmt::Formatter<W>) -> fmt::Result {
         let hart = self.hart;
@@ -125,7 +128,7 @@ impl fmt::Display for CountsRow {
         let longest = self.row.longest;
         let latest = self.row.latest;
         let exchanged = self.row.exchanged;
-        let total = Total::of(self.row);
+        let total = row_total(self.row, self.too_late);
         match self.format {
             Format::Csv => {
                 let counts = CountsFields(total);
@@ -182,5 +185,15 @@ impl fmt::Display for EndingRow {
                 lines.fmt(f)
             }
         }
+    }
+}
+
+/// What one row counts, where so many messages were too late in a live audit.
+fn row_total(row: HartRow, too_late: Option<u64>) -> Total
+    ensures { result ≡ row_total row too_late }
+{
+    match too_late {
+        Some(count) => Total::of(row).with_too_late(count),
+        None => Total::of(row),
     }
 }

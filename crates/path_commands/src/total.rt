@@ -1,7 +1,7 @@
 //! What an audit finds of all harts together.
 
 ghost use Rattle.std.specs.Prelude.{◌≡◌};
-ghost use Rattle.path_commands.specs.AuditText.{row_total};
+ghost use Rattle.path_commands.specs.AuditText.{counted_total, with_too_late};
 ghost use Rattle.path_commands.specs.steps.Summing.{added, none_added};
 
 use auditing::HartRow;
@@ -16,6 +16,8 @@ pub(crate) struct Total {
     pub(crate) late: u128,
     pub(crate) changed: u128,
     pub(crate) strange: u128,
+    /// How many messages were too late, in a live audit.
+    pub(crate) too_late: Option<u128>,
     pub(crate) whole: bool,
 }
 
@@ -32,13 +34,14 @@ impl Total {
             late: 0,
             changed: 0,
             strange: 0,
+            too_late: None,
             whole: true,
         }
     }
 
     /// What one row counts.
     pub(crate) fn of(row: HartRow) -> Total
-        ensures { result ≡ row_total row }
+        ensures { result ≡ counted_total row }
     {
         Total {
             sent: u128::from(row.tally.sent),
@@ -48,6 +51,7 @@ impl Total {
             late: u128::from(row.tally.late),
             changed: u128::from(row.tally.changed),
             strange: u128::from(row.strange),
+            too_late: None,
             whole: row.tally.whole,
         }
     }
@@ -64,7 +68,20 @@ impl Total {
             late: self.late.saturating_add(u128::from(row.tally.late)),
             changed: self.changed.saturating_add(u128::from(row.tally.changed)),
             strange: self.strange.saturating_add(u128::from(row.strange)),
+            too_late: self.too_late,
             whole: self.whole && row.tally.whole,
+        }
+    }
+
+    /// The same, of a live audit in which so many messages more were too late.
+    pub(crate) fn with_too_late(self, count: u64) -> Total
+        ensures { result ≡ with_too_late self count }
+    {
+        let before = self.too_late.unwrap_or(0);
+        let too_late = before.saturating_add(u128::from(count));
+        Total {
+            too_late: Some(too_late),
+            ..self
         }
     }
 }

@@ -8,7 +8,7 @@ use message::{Message, write_message};
 
 /// Adds the messages of a word: a hart, `.`, and a number or the first and the last number with `-`. The byte of each is
 /// its number modulo 251, or the byte after `=`.
-fn add_word(case: &mut Case<'_>, list: &mut Vec<Message>, word: &str) {
+fn add_word(case: &Case, list: &mut Vec<Message>, word: &str) {
     let (word, own) = cut(word, '=');
     let (hart, numbers) = cut(word, '.');
     let (first, last) = numbers.split_once('-').unwrap_or((numbers, numbers));
@@ -22,7 +22,7 @@ fn add_word(case: &mut Case<'_>, list: &mut Vec<Message>, word: &str) {
 }
 
 /// The messages of an argument, with commas between them.
-pub(crate) fn messages_in(case: &mut Case<'_>, name: &str) -> Vec<Message> {
+pub(crate) fn messages_in(case: &Case, name: &str) -> Vec<Message> {
     let mut list = Vec::new(case.alloc);
     for word in case.named(name).split(',') {
         if !word.is_empty() {
@@ -41,7 +41,7 @@ fn goes_on(before: Finding, next: Finding) -> bool {
 }
 
 /// Appends what is found of so many messages in a row, by the first and the last of them.
-fn put_run(case: &mut Case<'_>, times: u64, first: Finding, last: Finding) {
+fn put_run(case: &Case, times: u64, first: Finding, last: Finding) {
     case.put_shown(times);
     case.put(if first == last { " x " } else { " from " });
     case.put_debug(first);
@@ -53,7 +53,7 @@ fn put_run(case: &mut Case<'_>, times: u64, first: Finding, last: Finding) {
 }
 
 /// Appends what is found of messages, a line for those in a row that go on.
-fn put_findings(case: &mut Case<'_>, findings: &[Finding]) {
+fn put_findings(case: &Case, findings: &[Finding]) {
     let mut begun = None;
     let mut times: u64 = 0;
     for (place, finding) in findings.iter().enumerate() {
@@ -71,7 +71,7 @@ fn put_findings(case: &mut Case<'_>, findings: &[Finding]) {
 
 /// Appends what is found of each message that came and of each hart, where the first fault shows, and how many strangers
 /// came.
-fn put_audit(case: &mut Case<'_>, audit: &mut Audit<'_>) {
+fn put_audit(case: &Case, audit: &mut Audit<'_>) {
     let mut findings = Vec::new(case.alloc);
     for message in &messages_in(case, "came") {
         let finding = audit.examine(message);
@@ -89,7 +89,7 @@ fn put_audit(case: &mut Case<'_>, audit: &mut Audit<'_>) {
 }
 
 /// Appends the payload that was sent with a hart and a number, or `none`.
-fn put_payload(case: &mut Case<'_>, audit: &Audit<'_>) {
+fn put_payload(case: &Case, audit: &Audit<'_>) {
     let hart = case.small("hart", 0);
     match audit.sent(hart, case.number("number", 0)) {
         Some(payload) => case.put_digits(payload),
@@ -98,7 +98,7 @@ fn put_payload(case: &mut Case<'_>, audit: &Audit<'_>) {
 }
 
 /// What a verb asks of the audit of the messages that were sent.
-pub(crate) fn audit(case: &mut Case<'_>, verb: &str) {
+pub(crate) fn audit(case: &Case, verb: &str) {
     let mut bytes = Vec::new(case.alloc);
     for message in &messages_in(case, "sent") {
         let written = write_message(&mut bytes, message);
@@ -120,7 +120,7 @@ pub(crate) fn audit(case: &mut Case<'_>, verb: &str) {
 }
 
 /// The longest runs of flags that are not set, where `1` is a flag that is set.
-pub(crate) fn runs(case: &mut Case<'_>) {
+pub(crate) fn runs(case: &Case) {
     let mut flags = Vec::new(case.alloc);
     for flag in case.named("flags").bytes() {
         case.push(&mut flags, flag == b'1');

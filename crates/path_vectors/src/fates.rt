@@ -12,7 +12,7 @@ use frames::{BorrowedSpan, GuidedScan, Sent, is_framed};
 const MOST_RUNS: usize = 7;
 
 /// Appends runs of numbers that were lost, each the first of those left.
-fn put_lost(case: &mut Case<'_>, runs: LostRuns<'_>) {
+fn put_lost(case: &Case, runs: LostRuns<'_>) {
     let mut left = runs;
     for _ in 0..MOST_RUNS {
         if let Some(run) = left.next() {
@@ -22,7 +22,7 @@ fn put_lost(case: &mut Case<'_>, runs: LostRuns<'_>) {
 }
 
 /// Appends what an audit says of a hart: its tally, and which runs of numbers are lost.
-fn put_hart(case: &mut Case<'_>, audit: &Audit<'_>, hart: usize) {
+fn put_hart(case: &Case, audit: &Audit<'_>, hart: usize) {
     if hart < audit.harts() {
         let tally = audit.tally(hart);
         let counts = [
@@ -41,7 +41,7 @@ fn put_hart(case: &mut Case<'_>, audit: &Audit<'_>, hart: usize) {
 
 /// Appends the fate of each message that came; of each hart how many messages were sent, came, are lost, repeated, late and
 /// changed, whether it is whole, and which runs of its numbers are lost; and how many strangers came.
-pub(crate) fn put_fates(case: &mut Case<'_>, audit: &mut Audit<'_>) {
+pub(crate) fn put_fates(case: &Case, audit: &mut Audit<'_>) {
     for message in &messages_in(case, "came") {
         let fate = audit.take(message);
         case.put_word("");
@@ -54,7 +54,7 @@ pub(crate) fn put_fates(case: &mut Case<'_>, audit: &mut Audit<'_>) {
 }
 
 /// Appends a passage, which borrows the bytes that it is of.
-fn put_passage(case: &mut Case<'_>, passage: BorrowedSpan<'_>) {
+fn put_passage(case: &Case, passage: BorrowedSpan<'_>) {
     match passage {
         BorrowedSpan::Message { offset, message } => put_message(
             case,
@@ -67,7 +67,7 @@ fn put_passage(case: &mut Case<'_>, passage: BorrowedSpan<'_>) {
 }
 
 /// Appends the messages and the runs of other bytes of a damaged capture, read on by what was sent, as spans and as passages.
-pub(crate) fn put_scans<S: Sent>(case: &mut Case<'_>, came: &[u8], sent: &S) {
+pub(crate) fn put_scans<S: Sent>(case: &Case, came: &[u8], sent: &S) {
     let mut spans = GuidedScan::new(came, 0);
     let mut passages = GuidedScan::new(came, 0);
     for _ in 0..came.len().saturating_add(1) {
@@ -85,7 +85,7 @@ pub(crate) fn put_scans<S: Sent>(case: &mut Case<'_>, came: &[u8], sent: &S) {
 }
 
 /// The messages and the runs of other bytes of a damaged capture, read on by the payloads that were sent.
-pub(crate) fn known(case: &mut Case<'_>) {
+pub(crate) fn known(case: &Case) {
     let came = bytes_in(case);
     let framed = is_framed(came.as_slice());
     let mut known = KnownPayloads::new(case.alloc, by_of(case), framed);

@@ -8,7 +8,7 @@ use std::io::Write;
 
 /// The settings: `version=1`, `mode=diff`, `period=1024`, no count of harts and none of numbers, unless the arguments
 /// say otherwise.
-fn settings(case: &mut Case<'_>) -> Settings {
+fn settings(case: &Case) -> Settings {
     let version = match case.named("version") {
         "2" => Version::Two,
         _ => Version::One,
@@ -36,7 +36,7 @@ fn settings(case: &mut Case<'_>) -> Settings {
 
 /// Writes the capture of a text, and returns its fault. Settings that are none are noted.
 fn write_lines<W: Write>(
-    case: &mut Case<'_>,
+    case: &Case,
     settings: Settings,
     text: &[u8],
     sink: &mut W,
@@ -52,7 +52,7 @@ fn write_lines<W: Write>(
 
 /// The capture of a text, or what was written of it and the fault. With `calls=N` the writer takes a byte a call, and fails
 /// after so many calls.
-pub(crate) fn line(case: &mut Case<'_>) {
+pub(crate) fn line(case: &Case) {
     let settings = settings(case);
     let calls = case.number("calls", u64::MAX) as usize;
     let most = if calls == usize::MAX { usize::MAX } else { 1 };
@@ -67,7 +67,7 @@ pub(crate) fn line(case: &mut Case<'_>) {
 }
 
 /// The text of a fault.
-pub(crate) fn line_fault(case: &mut Case<'_>) {
+pub(crate) fn line_fault(case: &Case) {
     let why = match case.named("why") {
         "fields" => LineFault::Fields,
         "hart-1" => LineFault::Hart(Version::One),
@@ -83,7 +83,7 @@ pub(crate) fn line_fault(case: &mut Case<'_>) {
 }
 
 /// Appends so many lines, of harts 0 to 1,023 over and over. Each has its number, or none has.
-fn put_lines(text: &mut Case<'_>, lines: u64, is_numbered: bool) {
+fn put_lines(text: &Case, lines: u64, is_numbered: bool) {
     for place in 0..lines {
         let hart = place % 1024;
         let number = place / 1024;
@@ -96,7 +96,7 @@ fn put_lines(text: &mut Case<'_>, lines: u64, is_numbered: bool) {
 }
 
 /// Adds the capture of these lines: the header of 1,024 harts, and a message for each line.
-fn add_capture(case: &mut Case<'_>, bytes: &mut Vec<u8>, lines: u64) {
+fn add_capture(case: &Case, bytes: &mut Vec<u8>, lines: u64) {
     case.extend(bytes, b"\xff\xffrvtrace2\0\0\0\x04\0\x04");
     for place in 0..lines {
         let hart = (place % 1024) as u16;
@@ -108,17 +108,17 @@ fn add_capture(case: &mut Case<'_>, bytes: &mut Vec<u8>, lines: u64) {
 }
 
 /// Whether a long text has its capture.
-pub(crate) fn long_lines(case: &mut Case<'_>) {
+pub(crate) fn long_lines(case: &Case) {
     let settings = settings(case);
     let lines = case.number("lines", 0);
     let is_numbered = case.named("numbered") == "yes";
-    let mut text = case.again();
-    put_lines(&mut text, lines, is_numbered);
+    let text = case.over("");
+    put_lines(&text, lines, is_numbered);
     case.join(&text);
     let mut wanted = Vec::new(case.alloc);
     add_capture(case, &mut wanted, lines);
     let mut bytes = Vec::new(case.alloc);
-    let fault = write_lines(case, settings, text.came.as_bytes(), &mut bytes);
+    let fault = write_lines(case, settings, text.taken().as_bytes(), &mut bytes);
     let is_same = fault.is_none() && bytes.as_slice() == wanted.as_slice();
     case.put(if is_same { "same" } else { "another capture" });
 }

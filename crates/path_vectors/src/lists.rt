@@ -24,7 +24,7 @@ impl Random {
 }
 
 /// Adds a word: letters, or letters, `*` and how many times they are there.
-fn add_word(case: &mut Case<'_>, list: &mut Vec<u8>, word: &str) {
+fn add_word(case: &Case, list: &mut Vec<u8>, word: &str) {
     let (letters, times) = word.split_once('*').unwrap_or((word, "1"));
     for _ in 0..case.decimal(times) {
         case.extend(list, letters.as_bytes());
@@ -32,7 +32,7 @@ fn add_word(case: &mut Case<'_>, list: &mut Vec<u8>, word: &str) {
 }
 
 /// The letters that were sent: the word `sent`, or `count` letters of `letters` that look random.
-pub(crate) fn sent(case: &mut Case<'_>) -> Vec<u8> {
+pub(crate) fn sent(case: &Case) -> Vec<u8> {
     let letters = case.number("letters", 251);
     let mut list = Vec::new(case.alloc);
     let word = case.named("sent");
@@ -46,7 +46,7 @@ pub(crate) fn sent(case: &mut Case<'_>) -> Vec<u8> {
 
 /// Adds what comes of letters: about one in `lost` is lost, about one in `doubled` comes twice, and from the place `from`
 /// on up to `to` none comes.
-fn add_damaged(case: &mut Case<'_>, list: &mut Vec<u8>, sent: &[u8]) {
+fn add_damaged(case: &Case, list: &mut Vec<u8>, sent: &[u8]) {
     let (lost, doubled) = (
         case.number("lost", u64::MAX),
         case.number("doubled", u64::MAX),
@@ -66,7 +66,7 @@ fn add_damaged(case: &mut Case<'_>, list: &mut Vec<u8>, sent: &[u8]) {
 }
 
 /// The letters that came: the word `came`, or what comes of those that were sent.
-pub(crate) fn came(case: &mut Case<'_>, sent: &[u8]) -> Vec<u8> {
+pub(crate) fn came(case: &Case, sent: &[u8]) -> Vec<u8> {
     let mut list = Vec::new(case.alloc);
     match case.value("came") {
         Some(word) => add_word(case, &mut list, word),
@@ -76,7 +76,7 @@ pub(crate) fn came(case: &mut Case<'_>, sent: &[u8]) -> Vec<u8> {
 }
 
 /// A payload of one byte for each letter.
-pub(crate) fn payloads(case: &mut Case<'_>, letters: &[u8]) -> Vec<Payload> {
+pub(crate) fn payloads(case: &Case, letters: &[u8]) -> Vec<Payload> {
     let mut list = Vec::new(case.alloc);
     for letter in letters {
         if let Some(payload) = payload_of(case, &[*letter]) {

@@ -18,13 +18,13 @@ use std::io::{Cursor, Read};
 /// Keeps each line that is written in a case of its own, and counts the lines. Nothing is promised of it.
 #[derive(Drop)]
 struct Put {
-    own: Case<'static>,
+    own: Case,
     rows: LiveRows,
 }
 
 impl Put {
     /// Appends the place of a message, its hart, and its number.
-    fn put_one(&mut self, one: &Arrived) {
+    fn put_one(&self, one: &Arrived) {
         self.own.put_shown(one.place);
         self.own.put(": ");
         self.own.put_shown(one.message.hart);
@@ -95,7 +95,7 @@ impl FileReader for Came {
 
 /// Takes messages, one after the other.
 fn take_messages(
-    case: &mut Case<'_>,
+    case: &Case,
     audit: &mut LiveAudit,
     sent: &mut Listed,
     lines: &mut Put,
@@ -113,7 +113,7 @@ fn take_messages(
 
 /// Takes the messages of RECEIVED's bytes, after its header if it has one, and appends the runs of other bytes.
 fn take_bytes(
-    case: &mut Case<'_>,
+    case: &Case,
     audit: &mut LiveAudit,
     sent: &mut Listed,
     lines: &mut Put,
@@ -146,7 +146,7 @@ fn take_bytes(
 }
 
 /// Appends what is counted of each hart, and how many messages came of harts that are not known.
-fn put_rows(case: &mut Case<'_>, rows: &LiveRows) {
+fn put_rows(case: &Case, rows: &LiveRows) {
     for hart in 0..rows.harts() {
         case.put_debug(rows.row(hart));
         case.put("\n");
@@ -155,7 +155,7 @@ fn put_rows(case: &mut Case<'_>, rows: &LiveRows) {
 }
 
 /// What a live audit writes of messages that come, beside those that were sent.
-pub(crate) fn live(case: &mut Case<'_>) {
+pub(crate) fn live(case: &Case) {
     let window = case.small("window", 0);
     let harts = case.small("harts", 2);
     let by = by_of(case);

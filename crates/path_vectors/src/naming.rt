@@ -7,7 +7,7 @@ use symbols::{Symbols, write_symbol};
 const BASE: u64 = 0x8000_0000;
 
 /// Appends what is written after a place.
-fn put_symbol(case: &mut Case<'_>, symbols: &Symbols, place: u64) {
+fn put_symbol(case: &Case, symbols: &Symbols, place: u64) {
     let mut text = Vec::new(case.alloc);
     let written = write_symbol(symbols, place, &mut text);
     case.granted(written);
@@ -16,7 +16,7 @@ fn put_symbol(case: &mut Case<'_>, symbols: &Symbols, place: u64) {
 }
 
 /// What is written after a place by the symbols of a file, or why it has none.
-pub(crate) fn symbol(case: &mut Case<'_>) {
+pub(crate) fn symbol(case: &Case) {
     let digits = case.named("place");
     let place = case.hex(digits);
     let file = text_of(case);
@@ -27,7 +27,7 @@ pub(crate) fn symbol(case: &mut Case<'_>) {
 }
 
 /// How the symbols of a file with so many of them are written, 4 bytes apart, the last one first. Each fifth line is of data.
-fn put_symbols(file: &mut Case<'_>, count: u64) {
+fn put_symbols(file: &Case, count: u64) {
     for left in 0..count {
         let number = count.saturating_sub(1).saturating_sub(left);
         file.put_hex(BASE.wrapping_add(number.wrapping_mul(4)));
@@ -44,7 +44,7 @@ fn put_symbols(file: &mut Case<'_>, count: u64) {
 
 /// Appends how a place is named, and which name it has to have: the symbol so many before it, or the last one. Where that
 /// one is of data, the one before it counts.
-fn put_sized(case: &mut Case<'_>, symbols: &Symbols, count: u64, number: u64) {
+fn put_sized(case: &Case, symbols: &Symbols, count: u64, number: u64) {
     let last = number.min(count.saturating_sub(1));
     let symbol = if last % 5 == 4 {
         last.saturating_sub(1)
@@ -61,12 +61,12 @@ fn put_sized(case: &mut Case<'_>, symbols: &Symbols, count: u64, number: u64) {
 }
 
 /// `same`, or how other places of a file with so many symbols are named: of the first 200, the last 200 and the one after.
-pub(crate) fn sized(case: &mut Case<'_>) {
+pub(crate) fn sized(case: &Case) {
     let count = case.number("count", 0);
-    let mut file = case.again();
-    put_symbols(&mut file, count);
+    let file = case.over("");
+    put_symbols(&file, count);
     case.join(&file);
-    let symbols = Symbols::new(case.alloc, case.copied(file.came.as_bytes()));
+    let symbols = Symbols::new(case.alloc, case.copied(file.taken().as_bytes()));
     let Some(symbols) = case.read(symbols) else {
         return;
     };
@@ -75,7 +75,7 @@ pub(crate) fn sized(case: &mut Case<'_>) {
             put_sized(case, &symbols, count, number);
         }
     }
-    if case.came.is_empty() {
+    if case.has_nothing() {
         case.put("same");
     }
 }

@@ -38,7 +38,7 @@ fn lines_split(alloc: Global, path: Path<'_>, harts: &[u16]) -> Result<Vec<Line>
 }
 
 /// Appends what is counted of each hart, of harts in a row with equal counts once, and what is counted of all.
-fn put_counts(case: &mut Case<'_>, all: &[Alignment]) {
+fn put_counts(case: &Case, all: &[Alignment]) {
     let mut times: u64 = 0;
     for (hart, own) in all.iter().enumerate() {
         let counts = counts_of(own);
@@ -56,7 +56,7 @@ fn put_counts(case: &mut Case<'_>, all: &[Alignment]) {
 }
 
 /// Appends a line for each message that is a stranger, extra, or skips a number.
-fn put_lines(case: &mut Case<'_>, path: Path<'_>, lines: &[Line]) {
+fn put_lines(case: &Case, path: Path<'_>, lines: &[Line]) {
     let mut harts = Vec::new(case.alloc);
     for message in path.came {
         case.push(&mut harts, message.hart);
@@ -74,7 +74,7 @@ fn put_lines(case: &mut Case<'_>, path: Path<'_>, lines: &[Line]) {
 
 /// Appends what is said of a path: what is counted, and a line for each message that is a stranger, extra, or skips a
 /// number.
-fn put_path(case: &mut Case<'_>, path: Path<'_>) {
+fn put_path(case: &Case, path: Path<'_>) {
     let all = aligned_harts(case.alloc, path.harts, path.by, path.sent, path.came);
     let Some(all) = case.granted(all) else {
         return;
@@ -97,7 +97,7 @@ fn meaning(letter: u8) -> (u16, u8) {
 
 /// Adds the messages of an argument. A small letter is a message of hart 0 and a large one the same payload of hart 1; a digit is
 /// the payload of `a` of the hart of that number. The numbers of a hart count its messages.
-fn add_letters(case: &mut Case<'_>, list: &mut Vec<Message>, name: &str) {
+fn add_letters(case: &Case, list: &mut Vec<Message>, name: &str) {
     let word = case.named(name);
     let mut numbers = [0u64; 10];
     for letter in word.as_bytes() {
@@ -110,7 +110,7 @@ fn add_letters(case: &mut Case<'_>, list: &mut Vec<Message>, name: &str) {
 }
 
 /// Adds the messages of hart 0 with the payloads of an argument, each in hexadecimal, after a comma each but the first.
-fn add_spelled(case: &mut Case<'_>, list: &mut Vec<Message>, name: &str) {
+fn add_spelled(case: &Case, list: &mut Vec<Message>, name: &str) {
     for (number, digits) in case.named(name).split(',').enumerate() {
         let payload = bytes_of(case, digits);
         add_message(case, list, (0, number as u64), payload.as_slice());
@@ -118,7 +118,7 @@ fn add_spelled(case: &mut Case<'_>, list: &mut Vec<Message>, name: &str) {
 }
 
 /// Adds two messages of a hart. The first of them does not come of hart 1,023.
-fn add_hart(case: &mut Case<'_>, sent: &mut Vec<Message>, came: &mut Vec<Message>, hart: u16) {
+fn add_hart(case: &Case, sent: &mut Vec<Message>, came: &mut Vec<Message>, hart: u16) {
     let [low, high] = hart.to_le_bytes();
     add_message(case, sent, (hart, 0), &[low, high]);
     add_message(case, sent, (hart, 1), &[low, high, 1]);
@@ -129,7 +129,7 @@ fn add_hart(case: &mut Case<'_>, sent: &mut Vec<Message>, came: &mut Vec<Message
 }
 
 /// Adds two messages of each of 1,024 harts. The first of the last hart is lost, and two harts that sent nothing send one.
-fn add_many_harts(case: &mut Case<'_>, sent: &mut Vec<Message>, came: &mut Vec<Message>) {
+fn add_many_harts(case: &Case, sent: &mut Vec<Message>, came: &mut Vec<Message>) {
     for hart in 0..1024u16 {
         add_hart(case, sent, came, hart);
     }
@@ -139,7 +139,7 @@ fn add_many_harts(case: &mut Case<'_>, sent: &mut Vec<Message>, came: &mut Vec<M
 
 /// Adds 70,002 messages of hart 0, all of them different, of which each 10,000th is lost, number 0 too. Then hart 1 sends
 /// one, and one more comes of hart 0.
-fn add_many_messages(case: &mut Case<'_>, sent: &mut Vec<Message>, came: &mut Vec<Message>) {
+fn add_many_messages(case: &Case, sent: &mut Vec<Message>, came: &mut Vec<Message>) {
     for number in 0..70_002u64 {
         let payload = number.to_le_bytes();
         add_message(case, sent, (0, number), &payload);
@@ -153,7 +153,7 @@ fn add_many_messages(case: &mut Case<'_>, sent: &mut Vec<Message>, came: &mut Ve
 }
 
 /// What payloads are compared by.
-pub(crate) fn by_of(case: &Case<'_>) -> By {
+pub(crate) fn by_of(case: &Case) -> By {
     if case.named("by") == "packets" {
         By::Packets
     } else {
@@ -163,7 +163,7 @@ pub(crate) fn by_of(case: &Case<'_>) -> By {
 
 /// What is said of messages: of words, whose letters are messages; of hart 0 with payloads in hexadecimal, compared by
 /// bytes or by packets; of many harts; and of many messages.
-pub(crate) fn path_case(case: &mut Case<'_>, verb: &str) {
+pub(crate) fn path_case(case: &Case, verb: &str) {
     let (mut sent, mut came) = (Vec::new(case.alloc), Vec::new(case.alloc));
     let mut harts = case.number("harts", 2);
     match verb {

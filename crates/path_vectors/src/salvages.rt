@@ -15,7 +15,7 @@ use salvaging::treat_watched;
 use symbols::Symbols;
 
 /// The program that begins at `base`, if there is one.
-fn program_of(case: &mut Case<'_>) -> Option<Program> {
+fn program_of(case: &Case) -> Option<Program> {
     let (base, image) = (case.named("base"), case.named("image"));
     let base = case.hex(base);
     let program = Program::new(base, bytes_of(case, image));
@@ -23,7 +23,7 @@ fn program_of(case: &mut Case<'_>) -> Option<Program> {
 }
 
 /// The messages of the frames of a capture without a header.
-fn messages_in(case: &mut Case<'_>, capture: &[u8]) -> Vec<Message> {
+fn messages_in(case: &Case, capture: &[u8]) -> Vec<Message> {
     let mut messages = Vec::new(case.alloc);
     for span in spans_of(capture, None) {
         if let Span::Frame { message, .. } = span {
@@ -34,7 +34,7 @@ fn messages_in(case: &mut Case<'_>, capture: &[u8]) -> Vec<Message> {
 }
 
 /// The form that a case names.
-fn form_of(case: &Case<'_>) -> Form {
+fn form_of(case: &Case) -> Form {
     match case.named("form") {
         "table" => Form::Table,
         "rows" => Form::Lines { rows: true },
@@ -44,7 +44,7 @@ fn form_of(case: &Case<'_>) -> Form {
 
 /// Appends what is done with each message: as a table with `form=table`, as lines with rows with `form=rows`, or else as
 /// lines.
-fn put_treated(case: &mut Case<'_>, capture: &[u8], treated: &[TreatedInRows]) {
+fn put_treated(case: &Case, capture: &[u8], treated: &[TreatedInRows]) {
     let mut text = Vec::new(case.alloc);
     let form = form_of(case);
     let capture = TreatedCapture {
@@ -59,7 +59,7 @@ fn put_treated(case: &mut Case<'_>, capture: &[u8], treated: &[TreatedInRows]) {
 }
 
 /// What is done with each message of a capture without a header.
-pub(crate) fn treat(case: &mut Case<'_>) {
+pub(crate) fn treat(case: &Case) {
     let harts = case.small("harts", 1);
     let capture = bytes_in(case);
     let messages = messages_in(case, capture.as_slice());
@@ -78,7 +78,7 @@ pub(crate) fn treat(case: &mut Case<'_>) {
 }
 
 /// Appends the table of what is salvaged.
-fn put_salvaged(case: &mut Case<'_>, capture: &[u8], found: &Found) {
+fn put_salvaged(case: &Case, capture: &[u8], found: &Found) {
     let mut table = Vec::new(case.alloc);
     let written = write_found(case.alloc, Layout::Table, None, found, capture, &mut table);
     case.granted(written);
@@ -86,7 +86,7 @@ fn put_salvaged(case: &mut Case<'_>, capture: &[u8], found: &Found) {
 }
 
 /// The table of what is salvaged of a capture of one hart without a header.
-pub(crate) fn salvage(case: &mut Case<'_>) {
+pub(crate) fn salvage(case: &Case) {
     let capture = bytes_in(case);
     let Some(program) = program_of(case) else {
         return;

@@ -13,7 +13,7 @@ use stimulus::{Capture, Hart, Log, Mix, image_of, write_capture, write_log};
 const BASE: u64 = 0x8000_0000;
 
 /// The mix of a name.
-fn mix_named(case: &mut Case<'_>) -> Mix {
+fn mix_named(case: &Case) -> Mix {
     match Mix::named(case.word()) {
         Some(mix) => mix,
         None => {
@@ -24,18 +24,18 @@ fn mix_named(case: &mut Case<'_>) -> Mix {
 }
 
 /// Reads the next word, a count; a greater one is 4,294,967,295.
-fn whole_of(case: &mut Case<'_>) -> u32 {
+fn whole_of(case: &Case) -> u32 {
     case.next_decimal().min(u64::from(u32::MAX)) as u32
 }
 
 /// The image that a mix and a seed give.
-fn image_drawn(case: &mut Case<'_>, mix: Mix, seed: u64) -> Vec<u8> {
+fn image_drawn(case: &Case, mix: Mix, seed: u64) -> Vec<u8> {
     let image = image_of(case.alloc, mix, seed);
     case.granted(image).unwrap_or(Vec::new(case.alloc))
 }
 
 /// The program of that image.
-fn program_drawn(case: &mut Case<'_>, mix: Mix, seed: u64) -> Option<Program> {
+fn program_drawn(case: &Case, mix: Mix, seed: u64) -> Option<Program> {
     let program = Program::new(BASE, image_drawn(case, mix, seed));
     case.read(program)
 }
@@ -50,19 +50,19 @@ fn sum_of(bytes: &[u8]) -> u64 {
 }
 
 /// Appends how many bytes there are, and their sum.
-fn put_sum(case: &mut Case<'_>, bytes: &[u8]) {
+fn put_sum(case: &Case, bytes: &[u8]) {
     case.put_filled("# #", &[bytes.len() as u64, sum_of(bytes)]);
 }
 
 /// `image-sum MIX SEED`: how many bytes an image has, and their sum.
-pub(crate) fn image_sum_case(case: &mut Case<'_>) {
+pub(crate) fn image_sum_case(case: &Case) {
     let (mix, seed) = (mix_named(case), case.next_decimal());
     let image = image_drawn(case, mix, seed);
     put_sum(case, image.as_slice());
 }
 
 /// The text of a log, where it has so many rows.
-fn log_text(case: &mut Case<'_>) -> Vec<u8> {
+fn log_text(case: &Case) -> Vec<u8> {
     let asked = Log {
         mix: mix_named(case),
         seed: case.next_decimal(),
@@ -81,7 +81,7 @@ fn log_text(case: &mut Case<'_>) -> Vec<u8> {
 }
 
 /// `log-rows MIX SEED HART COUNT`: the text of a log; `log-sum`: how many bytes it has, and their sum.
-pub(crate) fn log_case(case: &mut Case<'_>, verb: &str) {
+pub(crate) fn log_case(case: &Case, verb: &str) {
     let text = log_text(case);
     if verb == "log-rows" {
         case.put_text(text.as_slice());
@@ -132,7 +132,7 @@ fn note_packets(came: &mut Came, packets: &[Packet]) {
 }
 
 /// Appends what came.
-fn put_came(case: &mut Case<'_>, came: Came) {
+fn put_came(case: &Case, came: Came) {
     for (name, has) in KINDS.iter().zip(came.kinds.iter()) {
         if *has {
             case.put_word(*name);
@@ -147,7 +147,7 @@ fn put_came(case: &mut Case<'_>, came: Came) {
 
 /// `log-comes MIX SEED COUNT PERIOD MODE`: which kinds of packets come of a log of hart 0, and payloads of which
 /// lengths.
-pub(crate) fn log_comes_case(case: &mut Case<'_>) {
+pub(crate) fn log_comes_case(case: &Case) {
     let (mix, seed) = (mix_named(case), case.next_decimal());
     let events = case.next_decimal();
     let (period, mode) = (case.next_short(), next_mode(case));
@@ -182,7 +182,7 @@ fn are_first(program: &Program, mix: Mix, seed: u64, number: usize, events: &[Ev
 }
 
 /// Appends what is wrong with what a capture decodes to.
-fn put_wrong(case: &mut Case<'_>, program: &Program, asked: &Capture, outcome: &CaptureOutcome) {
+fn put_wrong(case: &Case, program: &Program, asked: &Capture, outcome: &CaptureOutcome) {
     if outcome.fault.is_some() {
         case.put_word("fault");
     }
@@ -200,7 +200,7 @@ fn put_wrong(case: &mut Case<'_>, program: &Program, asked: &Capture, outcome: &
 
 /// `mixed-capture MIX SEED HARTS MESSAGES PERIOD MODE BURST`: how many bytes a capture has, their sum, and what is wrong
 /// with what it decodes to.
-pub(crate) fn mixed_capture_case(case: &mut Case<'_>) {
+pub(crate) fn mixed_capture_case(case: &Case) {
     let (mix, seed) = (mix_named(case), case.next_decimal());
     let harts = case.next_short();
     let asked = Capture {

@@ -14,7 +14,7 @@ use std::io::Read;
 const HEADER: &str = "addr,itype,priv,cause,tval\n";
 
 /// Appends what is read of a text.
-fn put_read(case: &mut Case<'_>, read: Result<Vec<Event>, LogFault>) {
+fn put_read(case: &Case, read: Result<Vec<Event>, LogFault>) {
     match read {
         Ok(events) => put_rows(case, events.as_slice()),
         Err(fault) => case.put_shown(fault),
@@ -52,7 +52,7 @@ fn read_in_pieces<R: Read + Drop>(
 
 /// Appends where something else is read of a text that is cut into three parts, each of which comes in a call of its own,
 /// where the last begins at a place: the part in the middle has up to three bytes.
-fn put_cuts(case: &mut Case<'_>, text: &[u8], second: usize, most: u32) {
+fn put_cuts(case: &Case, text: &[u8], second: usize, most: u32) {
     let limit = text.len().saturating_add(2);
     let (before, last) = text.split_at(second.min(text.len()));
     for first in second.saturating_sub(3)..second.saturating_add(1) {
@@ -64,7 +64,7 @@ fn put_cuts(case: &mut Case<'_>, text: &[u8], second: usize, most: u32) {
 }
 
 /// `read "TEXT"`: the events of a log's text, from a reader, from memory, and in pieces.
-pub(crate) fn read_case(case: &mut Case<'_>) {
+pub(crate) fn read_case(case: &Case) {
     let alloc = case.alloc;
     let text = text_of(case);
     let text = text.as_slice();
@@ -78,7 +78,7 @@ pub(crate) fn read_case(case: &mut Case<'_>) {
 }
 
 /// `read-most ROWS "TEXT"`: the events of a log's text that may have so many rows, in pieces, wherever it is cut.
-pub(crate) fn read_most_case(case: &mut Case<'_>) {
+pub(crate) fn read_most_case(case: &Case) {
     let most = case.next_decimal().min(u64::from(u32::MAX)) as u32;
     let text = text_of(case);
     let text = text.as_slice();
@@ -91,7 +91,7 @@ pub(crate) fn read_most_case(case: &mut Case<'_>) {
 }
 
 /// `write ROWS`: the text of a log after its header, which has to be read back.
-pub(crate) fn write_case(case: &mut Case<'_>) {
+pub(crate) fn write_case(case: &Case) {
     let alloc = case.alloc;
     let events = events_of(case);
     let mut text = Vec::new(alloc);
@@ -118,7 +118,7 @@ fn are_pairs(turns: &[Turn]) -> bool {
 }
 
 /// Appends turns. Two that come again and again are named once.
-fn put_turns(case: &mut Case<'_>, turns: &[Turn]) {
+fn put_turns(case: &Case, turns: &[Turn]) {
     let mut shown = turns;
     if are_pairs(turns) {
         case.put_filled("# times", &[turns.len() as u64 / 2]);
@@ -133,7 +133,7 @@ fn put_turns(case: &mut Case<'_>, turns: &[Turn]) {
 }
 
 /// `schedule HARTS "TEXT"`: the turns of a schedule. Two that come again and again are named once.
-pub(crate) fn schedule_case(case: &mut Case<'_>) {
+pub(crate) fn schedule_case(case: &Case) {
     let harts = case.next_short();
     let text = text_of(case);
     match read_schedule(case.alloc, harts, text.as_slice()) {
@@ -143,7 +143,7 @@ pub(crate) fn schedule_case(case: &mut Case<'_>) {
 }
 
 /// `text-line "TEXT"`: a text that is written with a line's end.
-pub(crate) fn line_case(case: &mut Case<'_>) {
+pub(crate) fn line_case(case: &Case) {
     let text = text_of(case);
     let Some(text) = case.read(str::from_utf8(text.as_slice())) else {
         return;

@@ -11,7 +11,7 @@ use cases::{Case, Verbs};
 pub(crate) struct PathVerbs;
 
 /// Plays a case of the text of a log or of a schedule, or of stimulus.
-fn play_text(case: &mut Case<'_>, verb: &str) {
+fn play_text(case: &Case, verb: &str) {
     match verb {
         "text-line" => texts::line_case(case),
         "read" => texts::read_case(case),
@@ -27,7 +27,7 @@ fn play_text(case: &mut Case<'_>, verb: &str) {
 }
 
 /// Plays a case of what was sent and what came.
-fn play_path(case: &mut Case<'_>, verb: &str) {
+fn play_path(case: &Case, verb: &str) {
     match verb {
         "path" | "spellings" | "many-harts" | "many-messages" => paths::path_case(case, verb),
         "audit" | "payload" | "fates" | "guided" => audits::audit(case, verb),
@@ -44,7 +44,7 @@ fn play_path(case: &mut Case<'_>, verb: &str) {
 }
 
 impl Verbs for PathVerbs {
-    fn answer(&mut self, case: &mut Case<'_>) {
+    fn answer(&mut self, case: &Case) {
         match case.word() {
             "line" => lines::line(case),
             "line-fault" => lines::line_fault(case),

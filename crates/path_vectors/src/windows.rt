@@ -27,7 +27,7 @@ impl SentSource for Listed {
 }
 
 /// Appends a message's hart and number, and what becomes of it.
-fn put_line(case: &mut Case<'_>, message: &Message, text: &str) {
+fn put_line(case: &Case, message: &Message, text: &str) {
     case.put_shown(message.hart);
     case.put(".");
     case.put_shown(message.number);
@@ -35,7 +35,7 @@ fn put_line(case: &mut Case<'_>, message: &Message, text: &str) {
 }
 
 /// The front goes on over so many messages. Appends those that are given up and did not come.
-fn pass(case: &mut Case<'_>, window: &mut Window, count: usize) {
+fn pass(case: &Case, window: &mut Window, count: usize) {
     for _ in 0..count {
         match window.pass() {
             Some(
@@ -50,7 +50,7 @@ fn pass(case: &mut Case<'_>, window: &mut Window, count: usize) {
 }
 
 /// Looks up a message that came, and appends what becomes of it.
-fn take(case: &mut Case<'_>, window: &mut Window, message: &Message) {
+fn take(case: &Case, window: &mut Window, message: &Message) {
     match window.judge(message) {
         Judged::TooLate => put_line(case, message, " too late\n"),
         Judged::Undecided => put_line(case, message, " undecided\n"),
@@ -66,7 +66,7 @@ fn take(case: &mut Case<'_>, window: &mut Window, message: &Message) {
 }
 
 /// What becomes of each message that came, by a window of those that were sent.
-pub(crate) fn window(case: &mut Case<'_>) {
+pub(crate) fn window(case: &Case) {
     let count = case.small("window", 0);
     let harts = case.small("harts", 2);
     let by = by_of(case);

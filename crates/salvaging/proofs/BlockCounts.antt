@@ -2,13 +2,21 @@
 use Rattle.std.proofs.Common.{◌≡◌, ◌⊎◌, inl, inr, ℕ, zero, suc, ◌+◌, ◌-◌, ◌*◌, ◌/◌, ◌%◌, ◌^◌, ◌<◌, ◌≤◌, ◌++◌, ◌==◌, All, Bool}
 use Rattle.std.proofs.Common.{zero-add, true, false, cond, List, [], ◌∷◌, drop, get_or, length, map, take, refl, sym, ap, subst, ◌∙◌, arith, rules}
 use Rattle.std.specs.Prelude.{count_by, nat_le, nat_lt, slice_set, sum}
+use Rattle.std.specs.declared.vec.Vec.{Vec}
 use Rattle.std.proofs.lemmas.Bool.{cases_lt, lt-ltb, le-ltb, lt-leb, le-leb, eq-eqb, ne_eqb}
-use Rattle.std.proofs.lemmas.List.{length-map, length-set, map-append}
+use Rattle.std.proofs.lemmas.List.{drop_more, length-map, length-set, map-append}
 use Rattle.std.proofs.lemmas.List.Elements.{All-cons, All-head, All-push, All-tail}
 use Rattle.std.proofs.lemmas.List.Sums.{count_by-le-length, sum-map, sum_by-cons, sum_by_push}
 use Rattle.salvaging.specs.steps.Ahead.{AreLevels, AreTaken, CanRaise, CountBlocks, CountPlaces, block_behind, block_of}
-use Rattle.salvaging.specs.steps.Ahead.{blocks_behind, count_behind, flag_count, flags_behind, raised}
+use Rattle.salvaging.specs.steps.Ahead.{blocks_behind, count_behind, flag_count, flags_behind, lists_in, raised}
 use Rattle.salvaging.proofs.FarByBound.{none_passes, one_of}
+
+-- The levels from a place on are the one there and those after it.
+pub levels_from : {A : Type 0} (levels : List (Vec ℕ A)) (k : ℕ) (level : Vec ℕ A) → k < length levels
+    → level ≡ get_or levels k level → lists_in (drop k levels) ≡ level.items ∷ lists_in (drop (k + 1) levels)
+levels_from levels k level within is =
+    ap lists_in (drop_more levels k level within)
+    ∙ ap (λ (one : Vec ℕ _). one.items ∷ lists_in (drop (k + 1) levels)) (sym is)
 
 -- A count of what passes one of two tests that exclude each other.
 split_count : (p q r : ℕ → Bool) → ((x : ℕ) → cond (p x) 1 0 ≡ cond (q x) 1 0 + cond (r x) 1 0) → (xs : List ℕ)

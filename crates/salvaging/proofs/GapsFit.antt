@@ -120,9 +120,6 @@ module _ (entries : List Entry) (flags : List Bool) (f : AreFar entries flags) w
       no_way (some_beside (entry_number x) entries y there (beside_there (entry_number x) y beside))
       (one_of (λ e. far e ≡ true → has_neighbour entries e ≡ false) entries x f.stand_far.by_itself here is)
 
-  far_used : (x : Entry) → IsIn x entries → far x ≡ true → is_used x ≡ true
-  far_used x here is = one_of (λ e. far e ≡ true → is_used e ≡ true) entries x f.stand_far.used here is
-
   above_one : (last x : Entry) → IsIn last entries → IsIn x entries → entry_number last + 1 ≤ entry_number x
       → far x ≡ true → next_behind last < entry_number x
   above_one (Doubtful number first second) x there here low is = omega (arith, low)

@@ -99,9 +99,6 @@ worked_used words mode came ordered hart k verdicts same used counted =
 module _ {A : Type 0} (words : Words) (mode : Mode) (came : List Arrival) (list : List ReceivedMessage)
     (worked : WorkedHart A Verdict) (is : list ≡ worked.came.items)
     (k : IsWorkedOut verdict_of words mode came (arrivals_in list) worked) where
-  pub end_within : worked.end ≤ length list
-  end_within = subst (λ l. worked.end ≤ length l) (sym is) k.within
-
   pub upto_same : entries_by (arrivals_in (take worked.end list)) ≡ k.upto
   upto_same = ap (λ l. entries_by (arrivals_in (take worked.end l))) is ∙ sym k.upto_is
 

@@ -114,8 +114,7 @@ fn treat_each<A: Allocator + Copy>(
 /// What is done with each of these messages, in their order, as [`salvage`](crate::salvage) takes them: a stranger, a
 /// copy or a doubtful number is passed over; every other message is bad, alone, or passed over while a synchronisation
 /// is looked for, or adds events to its hart's log, where the numbers of each hart are taken in order. `harts`, `mode`
-/// and
-/// `program` are those of `salvage`.
+/// and `program` are those of `salvage`.
 ///
 /// `watch` is told of each message once: hart after hart, and of the strangers at last. An error is returned only where
 /// an allocation fails.

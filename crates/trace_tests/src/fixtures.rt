@@ -28,33 +28,33 @@ pub(crate) fn add<R: Abort>(rt: &R, text: &mut Vec<u8>, bytes: &[u8]) {
 
 /// The program of these instructions, from the base on.
 pub(crate) fn program_of<R: Abort + AllocGlobal>(rt: &R, words: &str) -> Program {
-    let mut case = Case::new(rt.alloc(), "");
-    let (base, image) = piece_of(&mut case, words);
+    let case = Case::new(rt.alloc(), "");
+    let (base, image) = piece_of(&case, words);
     same_at(rt, words, case.is_failed(), false);
     Program::new(base, image).expect(rt, "a program")
 }
 
 /// The log of these rows.
 pub(crate) fn log_of<R: Abort + AllocGlobal>(rt: &R, rows: &str) -> Vec<Event> {
-    let mut case = Case::new(rt.alloc(), rows);
-    let log = events_of(&mut case);
+    let case = Case::new(rt.alloc(), rows);
+    let log = events_of(&case);
     same_at(rt, rows, case.is_failed(), false);
     log
 }
 
 /// The bytes of a text between quotes.
 pub(crate) fn bytes_in<R: Abort + AllocGlobal>(rt: &R, text: &str) -> Vec<u8> {
-    let mut case = Case::new(rt.alloc(), text);
-    let bytes = text_of(&mut case);
+    let case = Case::new(rt.alloc(), text);
+    let bytes = text_of(&case);
     same_at(rt, text, case.is_failed(), false);
     bytes
 }
 
 /// A text with a number in place of `#`.
 fn filled<R: AllocGlobal>(rt: &R, text: &str, number: u32) -> String {
-    let mut case = Case::new(rt.alloc(), "");
+    let case = Case::new(rt.alloc(), "");
     case.put_filled(text, &[u64::from(number)]);
-    case.came
+    case.taken()
 }
 
 /// The program of this many instructions C.NOP, from the base on.

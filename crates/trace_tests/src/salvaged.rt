@@ -18,8 +18,8 @@ const TWO_HARTS: &str =
 
 /// The messages of the capture.
 fn messages<R: Abort + AllocGlobal>(rt: &R) -> Vec<Message> {
-    let mut case = Case::new(rt.alloc(), TWO_HARTS);
-    let messages = messages_of(&mut case);
+    let case = Case::new(rt.alloc(), TWO_HARTS);
+    let messages = messages_of(&case);
     let found = (messages.len(), case.is_failed());
     same_at(rt, "messages", found, (10, false));
     messages

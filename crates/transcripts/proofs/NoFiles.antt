@@ -50,7 +50,10 @@ use Rattle.log_commands.specs.Measuring.{WritesTable}
 use Rattle.log_commands.specs.Most.{most_of}
 use Rattle.retire.specs.Log.{most_rows}
 use Rattle.log_commands.specs.Replaying.{ReplaysLogs}
-use Rattle.path_commands.specs.Audited.{AuditsHarts, AuditsSent, IsSentOf, Writes}
+use Rattle.path_commands.specs.Audited.{AuditsAs, AuditsAsked, AuditsSent, IsSentOf, Writes}
+use Rattle.path_commands.specs.Faults as audits
+use Rattle.path_commands.specs.Followed.{IsLive}
+use Rattle.message.specs.declared.range.HartRange.{HartRange}
 use Rattle.path_commands.specs.Sides.{IsFoundSent}
 use Rattle.command_inputs.specs.Status.{code_of}
 use Rattle.command_inputs.specs.declared.fault.Fault.{Fault as AnyFault}
@@ -189,6 +192,17 @@ not_lines false asked settings printed status ended prints =
     not_first (IsRead none asked.lines) (WritesCapture asked.lines settings) printed status ended
     (λ text read written. no_bytes asked.lines text read) prints
 
+-- No messages are compared.
+not_audited : (live : Bool) (asked : AskedAudit) (harts : HartRange) (printed : audits.Printed) (status : Status)
+    → printed.ended ≡ Ok status → AuditsAs live none asked harts printed → ⊥
+not_audited true asked harts printed status ended quiet =
+    let stopped : printed.ended ≡ Err (fault.Unreadable asked.sent) =
+    ap (λ (p : audits.Printed). p.ended) quiet in cc
+not_audited false asked harts printed status ended prints =
+    not_first (IsSentOf none asked)
+    (AuditsSent (Writes asked.format asked.unnumbered asked harts) none asked harts) printed status ended
+    (λ sent is written. no_sent asked sent is) prints
+
 -- Nothing is carried out to its end but `generate`.
 not_ended : (asked : Asked) (status : Status) (old new : Option (List ℕ)) → IsCarriedOut none asked (Ok status) old new
     → IsGenerate asked
@@ -234,11 +248,10 @@ not_ended (Bench asked) status old new done =
 not_ended (Audit asked) status old new done =
     let own = done.prints.own in
     let ends = ends_so Path done.text status own done.prints.is in
-    not_first (IsFormat asked.format) (λ _. First (IsOnly asked.only) (AuditsHarts none asked)) own status ends
-    (λ _ is prints. not_first (IsOnly asked.only) (AuditsHarts none asked) own status ends
-    (λ harts only prints. not_first (IsSentOf none asked)
-    (AuditsSent (Writes asked.format asked.unnumbered asked harts) none asked harts) own status ends
-    (λ sent is written. no_sent asked sent is) prints) prints) done.prints.prints
+    not_first (IsFormat asked.format) (λ _. First (IsOnly asked.only) (AuditsAsked none asked)) own status ends
+    (λ _ is prints. not_first (IsOnly asked.only) (AuditsAsked none asked) own status ends
+    (λ harts only prints. not_first (IsLive asked) (λ _. AuditsAs asked.live none asked harts) own status ends
+    (λ _ goes prints. not_audited asked.live asked harts own status ends prints) prints) prints) done.prints.prints
 not_ended (Measure asked) status old new done =
     let own = done.prints.own in
     let ends = ends_so Log done.text status own done.prints.is in
@@ -291,6 +304,9 @@ reason_faulty (Capture (capture.NoHart harts)) = λ is. omega arith
 reason_faulty (Path (audit.Damaged path)) = λ is. omega arith
 reason_faulty (Path (audit.Sent sent why)) = λ is. omega arith
 reason_faulty (Path (audit.NoHart sent harts)) = λ is. omega arith
+reason_faulty (Path audit.LiveUnnumbered) = λ is. omega arith
+reason_faulty (Path audit.LiveTable) = λ is. omega arith
+reason_faulty (Path audit.WindowAlone) = λ is. omega arith
 reason_faulty (Line (line.ManyHarts most)) = λ is. omega arith
 reason_faulty (Line line.SkipAlone) = λ is. omega arith
 reason_faulty (Line (line.Line path number why)) = λ is. omega arith

@@ -54,7 +54,7 @@ impl Progress {
     /// - `looked BEFORE NOW`: whether the clock is looked at;
     /// - `new`: another line, which is not begun;
     /// - `begin MILLIS TOTAL`, `read MILLIS COUNT`, `messages MILLIS COUNT`, `end`: a call of the line at this time.
-    pub(crate) fn call(&mut self, case: &mut Case<'_>, text: &str, out: &mut Vec<u8>) {
+    pub(crate) fn call(&mut self, case: &Case, text: &str, out: &mut Vec<u8>) {
         let mut words = text.split_whitespace();
         let verb = words.next().unwrap_or("");
         let first = case.decimal(words.next().unwrap_or("0"));
@@ -70,13 +70,7 @@ impl Progress {
     }
 
     /// Makes a call of the line at a time.
-    fn call_at(
-        &mut self,
-        case: &mut Case<'_>,
-        verb: &str,
-        (millis, count): (u64, u64),
-        out: &mut Vec<u8>,
-    ) {
+    fn call_at(&mut self, case: &Case, verb: &str, (millis, count): (u64, u64), out: &mut Vec<u8>) {
         let Progress { line, clock } = self;
         clock.millis.store(millis, Ordering::SeqCst);
         match verb {
@@ -89,10 +83,10 @@ impl Progress {
 }
 
 /// Appends a line with what has a text.
-pub(crate) fn add_shown<D: Display + Drop>(case: &mut Case<'_>, out: &mut Vec<u8>, shown: D) {
-    let mut line = case.again();
+pub(crate) fn add_shown<D: Display + Drop>(case: &Case, out: &mut Vec<u8>, shown: D) {
+    let line = case.over("");
     line.put_shown(shown);
     line.put("\n");
     case.join(&line);
-    add(case, out, line.came.as_bytes());
+    add(case, out, line.taken().as_bytes());
 }

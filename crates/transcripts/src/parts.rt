@@ -4,7 +4,7 @@ use crate::shelf::Shelf;
 use cases::{Case, bytes_of};
 
 /// Both sides of the first separator in a text.
-fn split<'t>(case: &mut Case<'_>, text: &'t str, separator: &str) -> (&'t str, &'t str) {
+fn split<'t>(case: &Case, text: &'t str, separator: &str) -> (&'t str, &'t str) {
     match text.split_once(separator) {
         Some(sides) => sides,
         None => {
@@ -15,13 +15,13 @@ fn split<'t>(case: &mut Case<'_>, text: &'t str, separator: &str) -> (&'t str, &
 }
 
 /// Appends bytes.
-pub(crate) fn add(case: &mut Case<'_>, content: &mut Vec<u8>, bytes: &[u8]) {
+pub(crate) fn add(case: &Case, content: &mut Vec<u8>, bytes: &[u8]) {
     let done = content.extend_from_slice(bytes);
     case.note(done);
 }
 
 /// Appends a message: its hart, its number, and the bytes of its payload after their count.
-fn add_message(case: &mut Case<'_>, content: &mut Vec<u8>, text: &str) {
+fn add_message(case: &Case, content: &mut Vec<u8>, text: &str) {
     let (hart, rest) = split(case, text, " ");
     let (number, digits) = split(case, rest, " ");
     let [low, high, ..] = case.decimal(hart).to_le_bytes();
@@ -34,7 +34,7 @@ fn add_message(case: &mut Case<'_>, content: &mut Vec<u8>, text: &str) {
 }
 
 /// Appends what a text means, by its form: `=` bytes, `~` a message, `<` a file, `+` the text itself, and else a line.
-fn add_form(case: &mut Case<'_>, shelf: &Shelf, content: &mut Vec<u8>, form: char, text: &str) {
+fn add_form(case: &Case, shelf: &Shelf, content: &mut Vec<u8>, form: char, text: &str) {
     match form {
         '=' => {
             let bytes = bytes_of(case, text);
@@ -54,7 +54,7 @@ fn add_form(case: &mut Case<'_>, shelf: &Shelf, content: &mut Vec<u8>, form: cha
 }
 
 /// Appends the number before a part of a text, and the part without its step.
-fn put_numbered(case: &mut Case<'_>, part: &str, number: u64) {
+fn put_numbered(case: &Case, part: &str, number: u64) {
     let Some(rest) = part.strip_prefix('{') else {
         case.put_shown(number);
         return case.put(part);
@@ -63,14 +63,15 @@ fn put_numbered(case: &mut Case<'_>, part: &str, number: u64) {
     let (step, rest) = split(case, rest, "}");
     let added = case.hex(step).wrapping_mul(number);
     let sum = case.hex(first).wrapping_add(added);
-    let done = write!(case.came, "{sum:08x}");
-    case.note(done);
+    let mut digits = String::new(case.alloc);
+    case.note(write!(digits, "{sum:08x}"));
+    case.put(digits.as_str());
     case.put(rest);
 }
 
 /// Appends the text with a number for each `@`; `@{A+S}` is the hexadecimal number A, and S more for each number from 0
 /// on, with eight digits at least.
-fn put_whole(case: &mut Case<'_>, text: &str, number: u64) {
+fn put_whole(case: &Case, text: &str, number: u64) {
     for (i, part) in text.split('@').enumerate() {
         if i == 0 {
             case.put(part);
@@ -82,22 +83,22 @@ fn put_whole(case: &mut Case<'_>, text: &str, number: u64) {
 
 /// Appends what a text means at one of several times, in lines that `\n` separates.
 fn add_time(
-    case: &mut Case<'_>,
+    case: &Case,
     shelf: &Shelf,
     content: &mut Vec<u8>,
     time: u64,
     (form, text): (char, &str),
 ) {
     for line in text.split("\\n") {
-        let mut whole = case.again();
-        put_whole(&mut whole, line, time);
+        let whole = case.over("");
+        put_whole(&whole, line, time);
         case.join(&whole);
-        add_form(case, shelf, content, form, whole.came.as_str());
+        add_form(case, shelf, content, form, whole.taken().as_str());
     }
 }
 
 /// The first and last number of a range such as `1..11}`, and the text after it.
-fn range_at<'t>(case: &mut Case<'_>, text: &'t str) -> (u64, u64, &'t str) {
+fn range_at<'t>(case: &Case, text: &'t str) -> (u64, u64, &'t str) {
     let (first, rest) = split(case, text, "..");
     let (last, rest) = split(case, rest, "}");
     (case.decimal(first), case.decimal(last), rest)
@@ -105,7 +106,7 @@ fn range_at<'t>(case: &mut Case<'_>, text: &'t str) -> (u64, u64, &'t str) {
 
 /// The times that a text begins with, as a count or a range: the first, the number after the last, and the text after
 /// them.
-fn times_at<'t>(case: &mut Case<'_>, text: &'t str) -> (u64, u64, &'t str) {
+fn times_at<'t>(case: &Case, text: &'t str) -> (u64, u64, &'t str) {
     if let Some(range) = text.strip_prefix('{') {
         let (first, last, rest) = range_at(case, range);
         return (first, last.saturating_add(1), rest);
@@ -125,7 +126,7 @@ fn form_at(line: &str) -> (char, &str) {
 }
 
 /// Appends what a line means: a form and a text, or `*`, the times that they are meant, and both.
-pub(crate) fn add_line(case: &mut Case<'_>, shelf: &Shelf, content: &mut Vec<u8>, line: &str) {
+pub(crate) fn add_line(case: &Case, shelf: &Shelf, content: &mut Vec<u8>, line: &str) {
     let Some(counted) = line.strip_prefix('*') else {
         let (form, text) = form_at(line);
         return add_form(case, shelf, content, form, text);
@@ -138,27 +139,26 @@ pub(crate) fn add_line(case: &mut Case<'_>, shelf: &Shelf, content: &mut Vec<u8>
 
 /// Adds an argument, with this number for a range in braces. In it `␣`, `␉` and `␤` are a blank, a tabulator and an end
 /// of line.
-fn add_word(case: &mut Case<'_>, words: &mut Vec<String>, word: &str, number: u64) {
-    let mut text = case.again();
+fn add_word(case: &Case, words: &mut Vec<String>, word: &str, number: u64) {
+    let text = case.over("");
     let (name, range) = word.split_once('{').unwrap_or((word, ""));
     for character in name.chars() {
-        let done = text.came.push(match character {
+        text.put_shown(match character {
             '␣' => ' ',
             '␉' => '\t',
             '␤' => '\n',
             other => other,
         });
-        text.note(done);
     }
     if !range.is_empty() {
         text.put_shown(number);
     }
     case.join(&text);
-    case.push(words, text.came);
+    case.push(words, text.taken());
 }
 
 /// The arguments of a line, with this number for a range in braces; `COUNT*WORD` repeats an argument.
-pub(crate) fn words_of(case: &mut Case<'_>, line: &str, number: u64) -> Vec<String> {
+pub(crate) fn words_of(case: &Case, line: &str, number: u64) -> Vec<String> {
     let mut words = Vec::new(case.alloc);
     for word in line.split_whitespace() {
         let (times, word) = case.times(word);
@@ -170,7 +170,7 @@ pub(crate) fn words_of(case: &mut Case<'_>, line: &str, number: u64) -> Vec<Stri
 }
 
 /// The first and last number of the range in braces of a line, such as `{1..11}`; 0 and 0 where it has none.
-pub(crate) fn range_of(case: &mut Case<'_>, line: &str) -> (u64, u64) {
+pub(crate) fn range_of(case: &Case, line: &str) -> (u64, u64) {
     match line.split_once('{') {
         Some((_, rest)) => {
             let (first, last, _) = range_at(case, rest);

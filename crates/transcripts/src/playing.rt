@@ -80,8 +80,8 @@ fn read_line<'a, R: Eprint + AllocGlobal>(
     line: &'a str,
     page: &mut Page<'a>,
 ) -> io::Result<()> {
-    let mut notes = Case::new(rt.alloc(), "");
-    page.read_line(&mut notes, place.1, line);
+    let notes = Case::new(rt.alloc(), "");
+    page.read_line(&notes, place.1, line);
     count_malformed(rt, tally, place, line, &notes)
 }
 
@@ -91,7 +91,7 @@ fn count_malformed(
     tally: &mut Tally,
     place: (&str, usize),
     line: &str,
-    notes: &Case<'_>,
+    notes: &Case,
 ) -> io::Result<()> {
     if notes.is_read()? {
         return Ok(());
@@ -113,8 +113,8 @@ where
 {
     if !page.run.line.is_empty() && way.is_among(page.ways) {
         let place = (name, page.run.number);
-        let mut notes = Case::new(rt.alloc(), "");
-        play_run(rt, disk, tally, place, page, way, &mut notes)?;
+        let notes = Case::new(rt.alloc(), "");
+        play_run(rt, disk, tally, place, page, way, &notes)?;
         count_malformed(rt, tally, place, page.run.line, &notes)?;
     }
     page.run = Run::new(rt.alloc(), 0, "");
@@ -129,7 +129,7 @@ fn play_run<R: Host + Eprint + AllocGlobal + Threads + Wait + Sync, D: Files + S
     place: (&str, usize),
     page: &mut Page<'_>,
     way: Way,
-    notes: &mut Case<'_>,
+    notes: &Case,
 ) -> io::Result<()>
 where
     D::Reader: Send,
@@ -141,7 +141,8 @@ where
         let Verdict { wanted, came } = verdict;
         notes.join(&wanted);
         notes.join(&came);
-        tally.count(rt, place, wanted.came.as_str(), came.came.as_str())?;
+        let (wanted, came) = (wanted.taken(), came.taken());
+        tally.count(rt, place, wanted.as_str(), came.as_str())?;
     }
     Ok(())
 }
@@ -153,7 +154,7 @@ fn play_number<R: Host + AllocGlobal + Threads + Wait + Sync, D: Files + Sync>(
     page: &mut Page<'_>,
     way: Way,
     number: u64,
-    notes: &mut Case<'_>,
+    notes: &Case,
     verdict: &mut Verdict,
 )
 where
@@ -178,16 +179,16 @@ fn is_played<R: Host + AllocGlobal + Threads + Wait + Sync, D: Files + Sync>(
     page: &mut Page<'_>,
     way: Way,
     mut words: Vec<String>,
-    notes: &mut Case<'_>,
+    notes: &Case,
     verdict: &mut Verdict,
 )
 where
     D::Reader: Send,
 {
     if matches!(way, Way::Shown) && is_among(words.as_slice(), &READERS) {
-        let mut word = notes.again();
+        let word = notes.over("");
         word.put("--progress");
-        notes.push(&mut words, word.came);
+        notes.push(&mut words, word.taken());
     }
     let words = words.as_slice();
     let Page { shelf, run, .. } = page;
@@ -208,7 +209,7 @@ fn is_called<R: Host + AllocGlobal, D: Files>(
     disk: &D,
     page: &mut Page<'_>,
     text: &str,
-    notes: &mut Case<'_>,
+    notes: &Case,
     verdict: &mut Verdict,
 ) {
     let mut out = Vec::new(rt.alloc());
@@ -224,17 +225,16 @@ fn is_called<R: Host + AllocGlobal, D: Files>(
 }
 
 /// The arguments ask for what is printed, or they are refused with what is reported.
-fn is_asked(notes: &mut Case<'_>, words: &[String], run: &Run<'_>, verdict: &mut Verdict) {
-    let mut out = notes.again();
-    let mut err = notes.again();
+fn is_asked(notes: &Case, words: &[String], run: &Run<'_>, verdict: &mut Verdict) {
+    let (out, err) = (notes.over(""), notes.over(""));
     match asked(notes.alloc, words) {
-        Ok(request) => put_asked(&mut out, &request),
+        Ok(request) => put_asked(&out, &request),
         Err(error) => err.put_shown(error),
     }
     notes.join(&out);
     notes.join(&err);
-    let came = (0, out.came.as_bytes(), err.came.as_bytes());
-    verdict.ends(0, run.outcome(), came);
+    let (out, err) = (out.taken(), err.taken());
+    verdict.ends(0, run.outcome(), (0, out.as_bytes(), err.as_bytes()));
 }
 
 /// Whether the subcommand of a line is one of these.
@@ -408,7 +408,7 @@ fn is_run_over_none<R: AllocGlobal + Threads + Wait + Sync>(
 }
 
 /// Writes a file of the shelf to the folder where this program runs, if it is there.
-fn put_file<R: Host>(rt: &R, shelf: &Shelf, path: &str, notes: &mut Case<'_>) {
+fn put_file<R: Host>(rt: &R, shelf: &Shelf, path: &str, notes: &Case) {
     if let Some(bytes) = shelf.content(path) {
         notes.read(fs::write(rt, path, bytes));
     }
@@ -421,7 +421,7 @@ fn is_run_on<R: Host + AllocGlobal + Threads + Wait + Sync, D: Files + Sync>(
     shelf: &Shelf,
     words: &[String],
     run: &Run<'_>,
-    notes: &mut Case<'_>,
+    notes: &Case,
     verdict: &mut Verdict,
 )
 where

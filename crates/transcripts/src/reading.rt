@@ -133,7 +133,7 @@ impl<'a> Run<'a> {
     }
 
     /// Adds to what is expected.
-    fn expect(&mut self, case: &mut Case<'_>, shelf: &Shelf, line: &str) {
+    fn expect(&mut self, case: &Case, shelf: &Shelf, line: &str) {
         if self.line.is_empty() {
             case.unread();
         } else if let Some(text) = line.strip_prefix('>') {
@@ -169,7 +169,7 @@ impl<'a> Page<'a> {
     }
 
     /// Adds to the newest file.
-    fn fill(&mut self, case: &mut Case<'_>, text: &str) {
+    fn fill(&mut self, case: &Case, text: &str) {
         let mut bytes = Vec::new(case.alloc);
         add_line(case, &self.shelf, &mut bytes, text);
         match self.shelf.newest() {
@@ -179,7 +179,7 @@ impl<'a> Page<'a> {
     }
 
     /// Reads a line: it begins a file or a run, or adds to one.
-    pub(crate) fn read_line(&mut self, case: &mut Case<'_>, number: usize, line: &'a str) {
+    pub(crate) fn read_line(&mut self, case: &Case, number: usize, line: &'a str) {
         if line.is_empty() || line.starts_with('#') {
             return;
         }

@@ -27,8 +27,10 @@ enum Value<'v> {
 }
 
 /// Appends the name of a field, and what is before its value.
-fn put_name(text: &mut Case<'_>, name: &str) {
-    if !text.came.as_str().ends_with("{ ") {
+fn put_name(text: &Case, name: &str) {
+    let came = text.taken();
+    text.put(came.as_str());
+    if !came.as_str().ends_with("{ ") {
         text.put(", ");
     }
     text.put(name);
@@ -36,13 +38,13 @@ fn put_name(text: &mut Case<'_>, name: &str) {
 }
 
 /// Appends the name of a field and its value.
-fn put<D: Debug + Drop>(text: &mut Case<'_>, name: &str, value: D) {
+fn put<D: Debug + Drop>(text: &Case, name: &str, value: D) {
     put_name(text, name);
     text.put_debug(value);
 }
 
 /// Appends a program.
-fn put_program(text: &mut Case<'_>, program: &ProgramArgs<'_>) {
+fn put_program(text: &Case, program: &ProgramArgs<'_>) {
     text.put("ProgramArgs { ");
     put(text, "base", program.base);
     put(text, "also", program.also.as_slice());
@@ -51,7 +53,7 @@ fn put_program(text: &mut Case<'_>, program: &ProgramArgs<'_>) {
 }
 
 /// Appends a value.
-fn put_value(text: &mut Case<'_>, value: Value<'_>) {
+fn put_value(text: &Case, value: Value<'_>) {
     match value {
         Flag(flag) => text.put_debug(*flag),
         Short(short) => text.put_debug(*short),
@@ -71,7 +73,7 @@ fn put_value(text: &mut Case<'_>, value: Value<'_>) {
 }
 
 /// Appends fields.
-fn put_fields(text: &mut Case<'_>, fields: &[(&str, Value<'_>)]) {
+fn put_fields(text: &Case, fields: &[(&str, Value<'_>)]) {
     for (name, value) in fields {
         put_name(text, *name);
         put_value(text, *value);
@@ -85,13 +87,13 @@ macro_rules! put_all {
     };
 }
 
-fn put_check(text: &mut Case<'_>, asked: &Check<'_>) {
+fn put_check(text: &Case, asked: &Check<'_>) {
     text.put("Check(Check { ");
     put_all!(text, asked,
         Program: program, Flag: explain, Given: symbols, Flag: long, Flag: progress, Texts: logs);
 }
 
-fn put_encode(text: &mut Case<'_>, asked: &Encode<'_>) {
+fn put_encode(text: &Case, asked: &Encode<'_>) {
     text.put("Encode(Encode { ");
     put_all!(text, asked, Program: program, Short: period, Reports: mode);
     put(text, "version", asked.version);
@@ -100,61 +102,61 @@ fn put_encode(text: &mut Case<'_>, asked: &Encode<'_>) {
         Texts: logs);
 }
 
-fn put_dump(text: &mut Case<'_>, asked: &Dump<'_>) {
+fn put_dump(text: &Case, asked: &Dump<'_>) {
     text.put("Dump(Dump { ");
     put_all!(text, asked,
         Flag: search, Given: only, Given: symbols, Flag: progress, Text: capture);
 }
 
-fn put_decode(text: &mut Case<'_>, asked: &Decode<'_>) {
+fn put_decode(text: &Case, asked: &Decode<'_>) {
     text.put("Decode(Decode { ");
     put_all!(text, asked,
         Program: program, Short: harts, Given: only, Flag: lossy, Flag: progress, Text: capture);
 }
 
-fn put_replay(text: &mut Case<'_>, asked: &Replay<'_>) {
+fn put_replay(text: &Case, asked: &Replay<'_>) {
     text.put("Replay(Replay { ");
     put_all!(text, asked, Program: program, Short: period, Reports: mode);
     put(text, "capacity", asked.capacity);
     put_all!(text, asked, Flag: progress, Text: schedule, Texts: logs);
 }
 
-fn put_bench(text: &mut Case<'_>, asked: &Bench<'_>) {
+fn put_bench(text: &Case, asked: &Bench<'_>) {
     text.put("Bench(Bench { ");
     put_all!(text, asked, Program: program, Short: period, Reports: mode);
     put(text, "capacity", asked.capacity);
     put_all!(text, asked, Flag: progress, Texts: logs);
 }
 
-fn put_audit(text: &mut Case<'_>, asked: &Audit<'_>) {
+fn put_audit(text: &Case, asked: &Audit<'_>) {
     text.put("Audit(Audit { ");
     put_all!(text, asked,
-        Flag: packets, Flag: unnumbered, Given: only, Flag: summary, Layout: format,
-        Flag: progress, Text: sent, Text: received);
+        Flag: packets, Flag: unnumbered, Flag: live, GivenLong: window, Given: only, Flag: summary,
+        Layout: format, Flag: progress, Text: sent, Text: received);
 }
 
-fn put_measure(text: &mut Case<'_>, asked: &Measure<'_>) {
+fn put_measure(text: &Case, asked: &Measure<'_>) {
     text.put("Measure(Measure { ");
     put_all!(text, asked,
         Program: program, Short: period, Reports: mode, Flag: long, Flag: progress,
         Texts: logs);
 }
 
-fn put_listing(text: &mut Case<'_>, asked: &Listing<'_>) {
+fn put_listing(text: &Case, asked: &Listing<'_>) {
     text.put("Listing(Listing { ");
     put_all!(text, asked,
         Program: program, GivenShort: harts, Given: only, Given: symbols, Flag: rows,
         Flag: salvage, Layout: format, Flag: progress, Text: capture);
 }
 
-fn put_salvage(text: &mut Case<'_>, asked: &Salvage<'_>) {
+fn put_salvage(text: &Case, asked: &Salvage<'_>) {
     text.put("Salvage(Salvage { ");
     put_all!(text, asked,
         Program: program, GivenShort: harts, Given: only, Given: symbols, Flag: summary,
         Layout: format, Flag: progress, Text: capture);
 }
 
-fn put_capture(text: &mut Case<'_>, asked: &Capture<'_>) {
+fn put_capture(text: &Case, asked: &Capture<'_>) {
     text.put("Capture(Capture { ");
     put(text, "version", asked.version);
     put_all!(text, asked,
@@ -162,14 +164,14 @@ fn put_capture(text: &mut Case<'_>, asked: &Capture<'_>) {
         Flag: skip, Text: lines);
 }
 
-fn put_compare(text: &mut Case<'_>, asked: &Compare<'_>) {
+fn put_compare(text: &Case, asked: &Compare<'_>) {
     text.put("Compare(Compare { ");
     put_all!(text, asked,
         Program: program, Short: harts, Given: only, Flag: explain, Given: symbols, Flag: long,
         Flag: progress, Text: capture, Texts: logs);
 }
 
-fn put_generate(text: &mut Case<'_>, asked: &Generate<'_>) {
+fn put_generate(text: &Case, asked: &Generate<'_>) {
     text.put("Generate(Generate { ");
     text.put(match asked.product {
         Product::Image => "product: Image",
@@ -187,7 +189,7 @@ fn put_generate(text: &mut Case<'_>, asked: &Generate<'_>) {
 }
 
 /// Appends a line with what is asked.
-pub(crate) fn put_asked(text: &mut Case<'_>, asked: &Asked<'_>) {
+pub(crate) fn put_asked(text: &Case, asked: &Asked<'_>) {
     match asked {
         Asked::Check(asked) => put_check(text, asked),
         Asked::Encode(asked) => put_encode(text, asked),

@@ -9,12 +9,12 @@ pub(crate) type Outcome<'a> = (u64, &'a [u8], &'a [u8]);
 /// The first thing of a run that is not as it has to be: what was wanted, and what came. Both are empty where all is.
 #[derive(Drop)]
 pub(crate) struct Verdict {
-    pub(crate) wanted: Case<'static>,
-    pub(crate) came: Case<'static>,
+    pub(crate) wanted: Case,
+    pub(crate) came: Case,
 }
 
 /// Appends bytes: a text as it is displayed for debugging, others in hexadecimal.
-fn put_bytes(text: &mut Case<'_>, bytes: &[u8]) {
+fn put_bytes(text: &Case, bytes: &[u8]) {
     match str::from_utf8(bytes) {
         Ok(utf8) => text.put_debug(utf8),
         Err(_) => text.put_digits(bytes),
@@ -22,7 +22,7 @@ fn put_bytes(text: &mut Case<'_>, bytes: &[u8]) {
 }
 
 /// Appends an outcome.
-fn put_outcome(text: &mut Case<'_>, outcome: Outcome<'_>) {
+fn put_outcome(text: &Case, outcome: Outcome<'_>) {
     let (status, written, reported) = outcome;
     text.put_filled("status #, printed ", &[status]);
     put_bytes(text, written);
@@ -41,21 +41,21 @@ impl Verdict {
 
     /// A run that an output ended at one of its calls, or at none where that is 0, has to end so.
     pub(crate) fn ends(&mut self, call: usize, wanted: Outcome<'_>, came: Outcome<'_>) {
-        if wanted == came || !self.wanted.came.is_empty() {
+        if wanted == came || !self.wanted.has_nothing() {
             return;
         }
-        put_outcome(&mut self.wanted, wanted);
+        put_outcome(&self.wanted, wanted);
         if call > 0 {
             let call = [call as u64];
             self.came
                 .put_filled("at call # of the output that fails ", &call);
         }
-        put_outcome(&mut self.came, came);
+        put_outcome(&self.came, came);
     }
 
     /// A count of something has to be at least and at most so large.
     pub(crate) fn counts(&mut self, what: &str, (least, most): (u64, u64), came: u64) {
-        if (least <= came && came <= most) || !self.wanted.came.is_empty() {
+        if (least <= came && came <= most) || !self.wanted.has_nothing() {
             return;
         }
         self.wanted.put_filled("# to # ", &[least, most]);

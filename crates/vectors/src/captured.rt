@@ -24,7 +24,7 @@ pub(crate) struct Captured<'a> {
 }
 
 /// Appends a header, if there is one, and messages.
-fn put_messages(case: &mut Case<'_>, header: Option<Header>, messages: &[Message]) {
+fn put_messages(case: &Case, header: Option<Header>, messages: &[Message]) {
     if let Some(header) = header {
         case.put(match header.mode {
             Mode::Differential => "diff",
@@ -41,7 +41,7 @@ fn put_messages(case: &mut Case<'_>, header: Option<Header>, messages: &[Message
 }
 
 /// `read-capture`: the header and the messages of the capture, read as those of a complete one and up to the first fault.
-pub(crate) fn read_capture_case(case: &mut Case<'_>, bytes: &[u8]) {
+pub(crate) fn read_capture_case(case: &Case, bytes: &[u8]) {
     let read = read_messages(case.alloc, bytes);
     if let Some(read) = case.read(read) {
         put_messages(case, read.header, read.messages.as_slice());
@@ -58,7 +58,7 @@ pub(crate) fn read_capture_case(case: &mut Case<'_>, bytes: &[u8]) {
 }
 
 /// Appends at which message decoding stopped, and why, if it did.
-pub(crate) fn put_fault(case: &mut Case<'_>, fault: Option<(u64, CaptureFault)>) {
+pub(crate) fn put_fault(case: &Case, fault: Option<(u64, CaptureFault)>) {
     if let Some((number, fault)) = fault {
         case.put_filled("; message #: ", &[number]);
         case.put_shown(fault);
@@ -66,7 +66,7 @@ pub(crate) fn put_fault(case: &mut Case<'_>, fault: Option<(u64, CaptureFault)>)
 }
 
 /// Appends the events of harts, by places in the log, and which of them are closed, with this after each.
-fn put_each(case: &mut Case<'_>, log: &[Event], harts: &[Vec<Event>], closed: &[bool], end: &str) {
+fn put_each(case: &Case, log: &[Event], harts: &[Vec<Event>], closed: &[bool], end: &str) {
     for (events, closed) in harts.iter().zip(closed.iter()) {
         put_places(case, log, events.as_slice(), 0);
         put_end(case, *closed);
@@ -75,7 +75,7 @@ fn put_each(case: &mut Case<'_>, log: &[Event], harts: &[Vec<Event>], closed: &[
 }
 
 /// Appends the events of harts and which of them are closed. Harts that are alike are named together.
-fn put_decoded(case: &mut Case<'_>, log: &[Event], harts: &[Vec<Event>], closed: &[bool]) {
+fn put_decoded(case: &Case, log: &[Event], harts: &[Vec<Event>], closed: &[bool]) {
     case.keep();
     put_each(case, log, harts, closed, "\n");
     join_harts(case);
@@ -85,7 +85,7 @@ fn put_decoded(case: &mut Case<'_>, log: &[Event], harts: &[Vec<Event>], closed:
 }
 
 /// The text of the logs of harts.
-fn text_of(case: &mut Case<'_>, harts: &[Vec<Event>]) -> Vec<u8> {
+fn text_of(case: &Case, harts: &[Vec<Event>]) -> Vec<u8> {
     let mut text = Vec::new(case.alloc);
     for (hart, log) in harts.iter().enumerate() {
         let begun = write!(&mut text, "hart {hart}\n");
@@ -99,7 +99,7 @@ fn text_of(case: &mut Case<'_>, harts: &[Vec<Event>]) -> Vec<u8> {
 /// What one thread writes of a capture, and how decoding ends, if memory is there. The first pass has to tell of each
 /// message that is received, and that it ended, once.
 fn written<R: Threads + Sync>(
-    case: &mut Case<'_>,
+    case: &Case,
     rt: &R,
     captured: Captured<'_>,
     harts: u16,
@@ -134,7 +134,7 @@ fn written<R: Threads + Sync>(
 
 /// Appends what is written of a capture that is not what it is decoded to.
 fn put_other_written<R: Threads + Sync>(
-    case: &mut Case<'_>,
+    case: &Case,
     rt: &R,
     captured: Captured<'_>,
     harts: u16,
@@ -153,7 +153,7 @@ fn put_other_written<R: Threads + Sync>(
 }
 
 /// Receives the messages of a capture. Appends why one is not received.
-fn receive_all(case: &mut Case<'_>, captured: Captured<'_>, receiver: &mut Receiver) {
+fn receive_all(case: &Case, captured: Captured<'_>, receiver: &mut Receiver) {
     let read = read_messages(case.alloc, captured.bytes);
     let Some(read) = case.read(read) else {
         return;
@@ -171,15 +171,15 @@ fn receive_all(case: &mut Case<'_>, captured: Captured<'_>, receiver: &mut Recei
 
 /// `receive HARTS`, `receive HARTS EVENTS OWN`: the events of harts by a receiver, which first takes memory for so many
 /// events of each of its own harts.
-pub(crate) fn receive_case(case: &mut Case<'_>, captured: Captured<'_>) {
+pub(crate) fn receive_case(case: &Case, captured: Captured<'_>) {
     let harts = case.next_short();
-    let has_own = !case.text.is_empty();
+    let has_own = !case.text().is_empty();
     let total = if has_own { case.next_decimal() } else { 0 };
     let receiver = Receiver::new(case.alloc, harts);
     let Some(mut receiver) = case.granted(receiver) else {
         return;
     };
-    for word in case.text.split_whitespace() {
+    for word in case.text().split_whitespace() {
         let hart = case.short(word);
         if usize::from(hart) < receiver.lists().len() {
             let done = receiver.reserve(hart, total as usize);
@@ -195,11 +195,7 @@ pub(crate) fn receive_case(case: &mut Case<'_>, captured: Captured<'_>) {
 
 /// `decode-capture HARTS`: the events of the harts of the capture, by places in the log, and where decoding stops. What is
 /// written of the same bytes has to be the same.
-pub(crate) fn decode_capture_case<R: Threads + Sync>(
-    case: &mut Case<'_>,
-    rt: &R,
-    captured: Captured<'_>,
-) {
+pub(crate) fn decode_capture_case<R: Threads + Sync>(case: &Case, rt: &R, captured: Captured<'_>) {
     let harts = case.next_short();
     let outcome = decode_capture(case.alloc, captured.program, harts, captured.bytes);
     let Some(outcome) = case.granted(outcome) else {
@@ -212,11 +208,7 @@ pub(crate) fn decode_capture_case<R: Threads + Sync>(
 }
 
 /// `write-decoded HARTS`: the text that is written of the capture, which harts are closed, and where decoding stops.
-pub(crate) fn write_decoded_case<R: Threads + Sync>(
-    case: &mut Case<'_>,
-    rt: &R,
-    captured: Captured<'_>,
-) {
+pub(crate) fn write_decoded_case<R: Threads + Sync>(case: &Case, rt: &R, captured: Captured<'_>) {
     let harts = case.next_short();
     let Some((text, ended)) = written(case, rt, captured, harts) else {
         return;
@@ -229,7 +221,7 @@ pub(crate) fn write_decoded_case<R: Threads + Sync>(
 }
 
 /// Appends what is written of a capture that is not what it is decoded to.
-fn compare<R: Threads + Sync>(case: &mut Case<'_>, rt: &R, captured: Captured<'_>, harts: u16) {
+fn compare<R: Threads + Sync>(case: &Case, rt: &R, captured: Captured<'_>, harts: u16) {
     let outcome = decode_capture(case.alloc, captured.program, harts, captured.bytes);
     if let Some(outcome) = case.granted(outcome) {
         put_other_written(case, rt, captured, harts, &outcome);
@@ -238,18 +230,14 @@ fn compare<R: Threads + Sync>(case: &mut Case<'_>, rt: &R, captured: Captured<'_
 
 /// `decode-fronts HARTS`: of how many fronts of the capture the same is written as they are decoded to, each with so many
 /// harts and all counts below.
-pub(crate) fn decode_fronts_case<R: Threads + Sync>(
-    case: &mut Case<'_>,
-    rt: &R,
-    captured: Captured<'_>,
-) {
+pub(crate) fn decode_fronts_case<R: Threads + Sync>(case: &Case, rt: &R, captured: Captured<'_>) {
     let harts = case.next_short();
     let mut count: u64 = 0;
-    let mut others = case.again();
+    let others = case.over("");
     for place in 0..captured.bytes.len().saturating_add(1) {
         let bytes = captured.bytes.get(..place).unwrap_or(&[]);
         for harts in 0..harts.saturating_add(1) {
-            compare(&mut others, rt, Captured { bytes, ..captured }, harts);
+            compare(&others, rt, Captured { bytes, ..captured }, harts);
             count = count.saturating_add(1);
         }
     }
@@ -266,22 +254,18 @@ fn set(bytes: &mut [u8], place: usize, value: u8) {
 
 /// `decode-changes HARTS BYTES`: of how many captures with a byte changed to one of these the same is written as they are
 /// decoded to.
-pub(crate) fn decode_changes_case<R: Threads + Sync>(
-    case: &mut Case<'_>,
-    rt: &R,
-    captured: Captured<'_>,
-) {
+pub(crate) fn decode_changes_case<R: Threads + Sync>(case: &Case, rt: &R, captured: Captured<'_>) {
     let harts = case.next_short();
-    let digits = case.text;
+    let digits = case.text();
     let values = bytes_of(case, digits);
     let mut count: u64 = 0;
-    let mut others = case.again();
+    let others = case.over("");
     let mut changed = case.copied(captured.bytes);
     for (place, byte) in captured.bytes.iter().enumerate() {
         for value in values.as_slice() {
             set(&mut changed, place, *value);
             let bytes = changed.as_slice();
-            compare(&mut others, rt, Captured { bytes, ..captured }, harts);
+            compare(&others, rt, Captured { bytes, ..captured }, harts);
             count = count.saturating_add(1);
         }
         set(&mut changed, place, *byte);
@@ -291,7 +275,7 @@ pub(crate) fn decode_changes_case<R: Threads + Sync>(
 }
 
 /// Appends what bytes decode to as the capture of one hart.
-fn put_decoding(case: &mut Case<'_>, captured: Captured<'_>, bytes: &[u8]) {
+fn put_decoding(case: &Case, captured: Captured<'_>, bytes: &[u8]) {
     let outcome = decode_capture(case.alloc, captured.program, 1, bytes);
     if let Some(outcome) = case.granted(outcome) {
         let (lists, closed) = (outcome.harts.as_slice(), outcome.closed.as_slice());
@@ -302,7 +286,7 @@ fn put_decoding(case: &mut Case<'_>, captured: Captured<'_>, bytes: &[u8]) {
 
 /// `changes PLACE`: what the capture of one hart decodes to where the byte at a place has each value, values with the same
 /// text together.
-pub(crate) fn changes_case(case: &mut Case<'_>, captured: Captured<'_>) {
+pub(crate) fn changes_case(case: &Case, captured: Captured<'_>) {
     let place = case.next_decimal() as usize;
     let mut bytes = case.copied(captured.bytes);
     for value in 0..=255u8 {

@@ -17,13 +17,13 @@ use std::alloc::Global;
 
 /// The legal logs of so many harts: those of the parts `FIRST-END` of the log that the arguments name, in turn.
 fn logs_of<'p>(
-    case: &mut Case<'_>,
+    case: &Case,
     (program, log): (&'p Program, &[Event]),
     harts: u64,
 ) -> Vec<LegalLog<'p>> {
     let mut logs = Vec::new(case.alloc);
     for _ in 0..harts {
-        for word in case.text.split_whitespace() {
+        for word in case.text().split_whitespace() {
             if (logs.len() as u64) < harts {
                 let (first, end) = cut(word, '-');
                 let (first, end) = (case.decimal(first) as usize, case.decimal(end) as usize);
@@ -58,7 +58,7 @@ fn write_capture(
 
 /// `encode-capture VERSION HARTS PERIOD MODE PARTS`: the capture of harts whose logs are parts of the log, in turn, and how
 /// many messages it has.
-pub(crate) fn encode_capture_case(case: &mut Case<'_>, both: (&Program, &[Event])) -> Vec<u8> {
+pub(crate) fn encode_capture_case(case: &Case, both: (&Program, &[Event])) -> Vec<u8> {
     let version = case.word();
     let harts = case.next_decimal();
     let settings = settings_of(case);
@@ -74,7 +74,7 @@ pub(crate) fn encode_capture_case(case: &mut Case<'_>, both: (&Program, &[Event]
 }
 
 /// `encodes-capture VERSION HARTS PERIOD MODE PARTS`: the same, and whether it is the capture of the case before.
-pub(crate) fn encodes_capture_case(case: &mut Case<'_>, captured: Captured<'_>) {
+pub(crate) fn encodes_capture_case(case: &Case, captured: Captured<'_>) {
     let bytes = encode_capture_case(case, (captured.program, captured.log));
     if bytes.as_slice() != captured.bytes {
         case.put(", others");
@@ -82,11 +82,7 @@ pub(crate) fn encodes_capture_case(case: &mut Case<'_>, captured: Captured<'_>) 
 }
 
 /// The lines of logs.
-fn lines_of_logs(
-    case: &mut Case<'_>,
-    logs: &[LegalLog<'_>],
-    (period, mode): (u16, Mode),
-) -> Vec<u8> {
+fn lines_of_logs(case: &Case, logs: &[LegalLog<'_>], (period, mode): (u16, Mode)) -> Vec<u8> {
     let mut text = Vec::new(case.alloc);
     if logs.len() <= 1024 {
         let written = encode_hex(logs, period.max(1), mode, &mut text);
@@ -99,7 +95,7 @@ fn lines_of_logs(
 
 /// `hex-lines HARTS PERIOD MODE PARTS`: the lines of harts whose logs are parts of the log, in turn, and so by the payloads
 /// of each.
-pub(crate) fn hex_lines_case(case: &mut Case<'_>, captured: Captured<'_>) {
+pub(crate) fn hex_lines_case(case: &Case, captured: Captured<'_>) {
     let harts = case.next_decimal();
     let settings = settings_of(case);
     let logs = logs_of(case, (captured.program, captured.log), harts);
@@ -117,7 +113,7 @@ pub(crate) fn hex_lines_case(case: &mut Case<'_>, captured: Captured<'_>) {
 }
 
 /// `payload-lines HART`: the lines of a hart that sends the payloads of all messages of the capture.
-pub(crate) fn payload_lines_case(case: &mut Case<'_>, capture: &[u8]) {
+pub(crate) fn payload_lines_case(case: &Case, capture: &[u8]) {
     let hart = case.next_short();
     let mut payloads = Vec::new(case.alloc);
     let read = read_messages(case.alloc, capture);
@@ -148,7 +144,7 @@ struct Asked<'a> {
 }
 
 /// The messages of a hart whose log comes in these pieces.
-fn of_pieces<F: Form>(case: &mut Case<'_>, asked: Asked<'_>, pieces: &[&[Event]]) -> Vec<u8> {
+fn of_pieces<F: Form>(case: &Case, asked: Asked<'_>, pieces: &[&[Event]]) -> Vec<u8> {
     let period = asked.period.max(1);
     let mut messages = HartMessages::<F>::new(case.alloc, asked.hart, period, asked.mode);
     for piece in pieces {
@@ -160,7 +156,7 @@ fn of_pieces<F: Form>(case: &mut Case<'_>, asked: Asked<'_>, pieces: &[&[Event]]
 }
 
 /// The messages of a hart by its legal log.
-fn of_log<F: Form>(case: &mut Case<'_>, asked: Asked<'_>, legal: &LegalLog<'_>) -> Vec<u8> {
+fn of_log<F: Form>(case: &Case, asked: Asked<'_>, legal: &LegalLog<'_>) -> Vec<u8> {
     let mut bytes = Vec::new(case.alloc);
     let period = asked.period.max(1);
     let done = encode_hart::<F, Vec<u8>, Global>(asked.hart, legal, period, asked.mode, &mut bytes);
@@ -179,7 +175,7 @@ impl HandedIn {
     /// Appends that these pieces give other lines or bytes, with what they are.
     fn put_pieces(
         &self,
-        case: &mut Case<'_>,
+        case: &Case,
         asked: Asked<'_>,
         pieces: &[&[Event]],
         (what, number): (&str, usize),
@@ -192,7 +188,7 @@ impl HandedIn {
     }
 
     /// The same of pieces of so many events each.
-    fn put_chunks(&self, case: &mut Case<'_>, asked: Asked<'_>, size: usize) {
+    fn put_chunks(&self, case: &Case, asked: Asked<'_>, size: usize) {
         let mut pieces = Vec::new(case.alloc);
         for piece in asked.log.chunks(size.max(1)) {
             case.push(&mut pieces, piece);
@@ -203,7 +199,7 @@ impl HandedIn {
 
     /// Appends where pieces give other messages than these: one piece, long pieces, and for a log that is short itself
     /// pieces of a few events, and two pieces wherever it is cut.
-    fn put_all_pieces(&self, case: &mut Case<'_>, asked: Asked<'_>) {
+    fn put_all_pieces(&self, case: &Case, asked: Asked<'_>) {
         self.put_pieces(case, asked, &[asked.log], (", others in one piece", 0));
         if asked.log.len() > MOST_CUT {
             return self.put_chunks(case, asked, LONG_PIECES);
@@ -219,7 +215,7 @@ impl HandedIn {
 }
 
 /// The messages of a hart by its complete log, if it is legal. Appends in which pieces there are others.
-fn handed_in(case: &mut Case<'_>, asked: Asked<'_>) -> Option<HandedIn> {
+fn handed_in(case: &Case, asked: Asked<'_>) -> Option<HandedIn> {
     let legal = legal_log(case, asked.program, asked.log)?;
     let handed = HandedIn {
         lines: of_log::<HexLines>(case, asked, &legal),
@@ -230,7 +226,7 @@ fn handed_in(case: &mut Case<'_>, asked: Asked<'_>) -> Option<HandedIn> {
 }
 
 /// Appends the lines and the bytes of a hart's messages, and in which pieces there are others.
-fn put_handed_in(case: &mut Case<'_>, asked: Asked<'_>) {
+fn put_handed_in(case: &Case, asked: Asked<'_>) {
     if let Some(handed) = handed_in(case, asked) {
         case.put_text(handed.lines.as_slice());
         case.put_digits(handed.bytes.as_slice());
@@ -239,7 +235,7 @@ fn put_handed_in(case: &mut Case<'_>, asked: Asked<'_>) {
 
 /// `hand-in HART MODE PERIODS`: the lines and the bytes of a hart's messages, where its log is the one of the case before.
 /// They have to be the same at each of these periods, and in whatever pieces the log comes.
-pub(crate) fn hand_in_case(case: &mut Case<'_>, captured: Captured<'_>) {
+pub(crate) fn hand_in_case(case: &Case, captured: Captured<'_>) {
     let (hart, mode) = (case.next_short(), next_mode(case));
     let mut asked = Asked {
         program: captured.program,
@@ -250,7 +246,7 @@ pub(crate) fn hand_in_case(case: &mut Case<'_>, captured: Captured<'_>) {
     };
     put_handed_in(case, asked);
     case.end_first_way();
-    for word in case.text.split_whitespace() {
+    for word in case.text().split_whitespace() {
         asked.period = case.short(word);
         put_handed_in(case, asked);
         case.end_way(word);
@@ -258,9 +254,9 @@ pub(crate) fn hand_in_case(case: &mut Case<'_>, captured: Captured<'_>) {
 }
 
 /// `hand-in-alike HART PERIODS`: in which pieces the messages of the log are others, at these periods and in both modes.
-pub(crate) fn hand_in_alike_case(case: &mut Case<'_>, captured: Captured<'_>) {
+pub(crate) fn hand_in_alike_case(case: &Case, captured: Captured<'_>) {
     let hart = case.next_short();
-    for word in case.text.split_whitespace() {
+    for word in case.text().split_whitespace() {
         let period = case.short(word);
         for mode in [Mode::Differential, Mode::Full] {
             let asked = Asked {

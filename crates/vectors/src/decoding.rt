@@ -41,7 +41,7 @@ struct Walks<'p> {
 }
 
 /// A list with capacity for so many events after an old one.
-fn piece_for(case: &mut Case<'_>, room: usize) -> Vec<Event> {
+fn piece_for(case: &Case, room: usize) -> Vec<Event> {
     let piece = Vec::with_capacity(case.alloc, room.saturating_add(1));
     let mut piece = case.granted(piece).unwrap_or(Vec::new(case.alloc));
     case.push(&mut piece, OLD);
@@ -49,7 +49,7 @@ fn piece_for(case: &mut Case<'_>, room: usize) -> Vec<Event> {
 }
 
 /// Moves the events of a piece after its old one to a list.
-fn move_over(case: &mut Case<'_>, piece: &mut Vec<Event>, log: &mut Vec<Event>) {
+fn move_over(case: &Case, piece: &mut Vec<Event>, log: &mut Vec<Event>) {
     case.extend(log, piece.as_slice().get(1..).unwrap_or(&[]));
     piece.truncate(1);
 }
@@ -62,7 +62,7 @@ fn is_first_piece(count: usize, piece: usize, room: usize) -> bool {
 /// Feeds a packet in pieces with capacity for so many events. What pieces without capacity leave is handed out at once.
 /// `None` is where a piece does not have as many events as it has to.
 fn feed_in_pieces(
-    case: &mut Case<'_>,
+    case: &Case,
     lines: &StraightRuns<'_, Global>,
     decoder: &mut Decoder,
     packet: &Packet,
@@ -93,7 +93,7 @@ fn feed_in_pieces(
 
 /// Feeds a packet. `None` is where the call breaks its promise.
 fn feed(
-    case: &mut Case<'_>,
+    case: &Case,
     walks: Walks<'_>,
     decoder: &mut Decoder,
     packet: &Packet,
@@ -118,15 +118,15 @@ fn feed(
 
 /// What decoders give: after each packet how many events the list has or the fault, and the events.
 #[derive(Drop)]
-struct Given<'a> {
-    answers: Case<'a>,
-    rows: Case<'a>,
+struct Given {
+    answers: Case,
+    rows: Case,
 }
 
 /// Appends how many events the list has after a packet, or its fault. A fault leaves all as it was. A packet that
 /// closes the trace closes the decoder, and no other packet does.
 fn put_answer(
-    answers: &mut Case<'_>,
+    answers: &Case,
     packet: &Packet,
     answer: Result<(), DecodeFault>,
     (before, decoder): (&Decoder, &Decoder),
@@ -149,10 +149,10 @@ fn put_answer(
     }
 }
 
-impl Given<'_> {
+impl Given {
     /// Begins a stretch after packets that are lost.
-    fn lose(&mut self, log: &mut Vec<Event>) {
-        put_rows(&mut self.rows, log.as_slice());
+    fn lose(&self, log: &mut Vec<Event>) {
+        put_rows(&self.rows, log.as_slice());
         self.rows.put_word("|");
         self.answers.put_word("|");
         *log = Vec::new(self.rows.alloc);
@@ -160,7 +160,7 @@ impl Given<'_> {
 
     /// Takes the answer of a packet.
     fn feed(
-        &mut self,
+        &self,
         walks: Walks<'_>,
         decoder: &mut Decoder,
         packet: &Packet,
@@ -169,7 +169,7 @@ impl Given<'_> {
     ) {
         let before = *decoder;
         let count = log.len();
-        let answers = &mut self.answers;
+        let answers = &self.answers;
         match feed(answers, walks, decoder, packet, log, way) {
             Some(answer) => {
                 let counts = (count, log.len());
@@ -181,7 +181,7 @@ impl Given<'_> {
 }
 
 /// The packet of an argument: `map:OUTCOMES`, or the payload of a packet.
-fn packet_in(case: &mut Case<'_>, word: &str) -> Option<Packet> {
+fn packet_in(case: &Case, word: &str) -> Option<Packet> {
     if let Some(digits) = word.strip_prefix("map:") {
         return Some(Packet::Map(outcomes_of(digits)));
     }
@@ -190,22 +190,22 @@ fn packet_in(case: &mut Case<'_>, word: &str) -> Option<Packet> {
 }
 
 /// What is given in one way. `lost=MODE` begins a stretch.
-fn fed<'a>(case: &Case<'a>, walks: Walks<'_>, way: Way) -> Given<'a> {
-    let mut given = Given {
-        answers: case.again(),
-        rows: case.again(),
+fn fed(case: &Case, walks: Walks<'_>, way: Way) -> Given {
+    let given = Given {
+        answers: case.over(""),
+        rows: case.over(""),
     };
     let mut decoder = Decoder::new();
     let mut log = Vec::new(case.alloc);
-    for word in case.text.split_whitespace() {
+    for word in case.text().split_whitespace() {
         if let Some(name) = word.strip_prefix("lost=") {
-            decoder.resume(mode_of(&mut given.rows, name));
+            decoder.resume(mode_of(&given.rows, name));
             given.lose(&mut log);
-        } else if let Some(packet) = packet_in(&mut given.rows, word) {
+        } else if let Some(packet) = packet_in(&given.rows, word) {
             given.feed(walks, &mut decoder, &packet, &mut log, way);
         }
     }
-    put_rows(&mut given.rows, log.as_slice());
+    put_rows(&given.rows, log.as_slice());
     if decoder.is_closed() {
         given.rows.put_word("closed");
     }
@@ -213,7 +213,7 @@ fn fed<'a>(case: &Case<'a>, walks: Walks<'_>, way: Way) -> Given<'a> {
 }
 
 /// Appends what is given in another way, if it is something else.
-fn put_other(case: &mut Case<'_>, walks: Walks<'_>, first: &Given<'_>, way: Way) {
+fn put_other(case: &Case, walks: Walks<'_>, (answers, rows): (&str, &str), way: Way) {
     let other = fed(case, walks, way);
     let name = match way {
         Way::Full => "full",
@@ -222,8 +222,8 @@ fn put_other(case: &mut Case<'_>, walks: Walks<'_>, first: &Given<'_>, way: Way)
         Way::Pieces(_) => "pieces",
         Way::SkipsInPieces(_) => "skips in pieces",
     };
-    case.put_other(name, &other.answers, first.answers.came.as_str());
-    case.put_other(name, &other.rows, first.rows.came.as_str());
+    case.put_other(name, &other.answers, answers);
+    case.put_other(name, &other.rows, rows);
 }
 
 /// What is given of packets: their answers, or else their events.
@@ -236,7 +236,7 @@ pub(crate) enum Asked {
 /// `decode PAYLOADS`: the events of packets, and whether they close the trace. `lost=MODE` begins a stretch. `answers
 /// PAYLOADS`: how many events the list has after each packet, or its fault. In which other ways something else is given
 /// comes after that.
-pub(crate) fn decode_case(case: &mut Case<'_>, program: &Program, asked: Asked) {
+pub(crate) fn decode_case(case: &Case, program: &Program, asked: Asked) {
     let plain = StraightRuns::new(case.alloc, &*program);
     let mut skips = StraightRuns::new(case.alloc, &*program);
     let done = skips.find(case.alloc);
@@ -249,14 +249,16 @@ pub(crate) fn decode_case(case: &mut Case<'_>, program: &Program, asked: Asked) 
     let first = fed(case, walks, Way::Full);
     case.join(&first.answers);
     case.join(&first.rows);
-    match asked {
-        Asked::Answers => case.put(first.answers.came.as_str()),
-        Asked::Rows => case.put(first.rows.came.as_str()),
-    }
-    put_other(case, walks, &first, Way::Ample);
-    put_other(case, walks, &first, Way::Skips);
+    let (answers, rows) = (first.answers.taken(), first.rows.taken());
+    let first = (answers.as_str(), rows.as_str());
+    case.put(match asked {
+        Asked::Answers => first.0,
+        Asked::Rows => first.1,
+    });
+    put_other(case, walks, first, Way::Ample);
+    put_other(case, walks, first, Way::Skips);
     for room in ROOMS {
-        put_other(case, walks, &first, Way::Pieces(room));
-        put_other(case, walks, &first, Way::SkipsInPieces(room));
+        put_other(case, walks, first, Way::Pieces(room));
+        put_other(case, walks, first, Way::SkipsInPieces(room));
     }
 }

@@ -9,7 +9,7 @@ use rvclass::Program;
 
 /// The legal log of these events, if they are one.
 pub(crate) fn legal_log<'p>(
-    case: &mut Case<'_>,
+    case: &Case,
     program: &'p Program,
     log: &[Event],
 ) -> Option<LegalLog<'p>> {
@@ -23,7 +23,7 @@ pub(crate) fn legal_log<'p>(
 
 /// The payloads that a source gives of a log.
 pub(crate) fn sourced(
-    case: &mut Case<'_>,
+    case: &Case,
     log: &LegalLog<'_>,
     (period, mode): (u16, Mode),
 ) -> Vec<Payload> {
@@ -45,7 +45,7 @@ pub(crate) fn sourced(
 }
 
 /// Appends the payload of a packet, or a word where it is outside the profile.
-fn put_packet(case: &mut Case<'_>, packet: &Packet) {
+fn put_packet(case: &Case, packet: &Packet) {
     if packet.in_profile() {
         case.put_bytes(pack(packet).bytes());
     } else {
@@ -63,14 +63,14 @@ enum Way {
 }
 
 /// Appends packets.
-fn put_packets(case: &mut Case<'_>, packets: &[Packet]) {
+fn put_packets(case: &Case, packets: &[Packet]) {
     for packet in packets {
         put_packet(case, packet);
     }
 }
 
 /// Appends the packets of events that come up to the first that makes a packet due.
-fn push_until(case: &mut Case<'_>, encoder: &mut Encoder, program: &Program, log: &[Event]) {
+fn push_until(case: &Case, encoder: &mut Encoder, program: &Program, log: &[Event]) {
     let mut rest = log;
     for _ in 0..log.len().saturating_add(1) {
         let (count, packet) = encoder.push_until_packet(program, rest);
@@ -86,7 +86,7 @@ fn push_until(case: &mut Case<'_>, encoder: &mut Encoder, program: &Program, log
 
 /// Appends the payloads of an encoder.
 fn put_pushed(
-    case: &mut Case<'_>,
+    case: &Case,
     program: &Program,
     log: &[Event],
     (period, mode): (u16, Mode),
@@ -108,7 +108,7 @@ fn put_pushed(
 }
 
 /// Appends the payloads of the packets that a source gives of a log.
-fn put_sourced(case: &mut Case<'_>, log: &LegalLog<'_>, (period, mode): (u16, Mode)) {
+fn put_sourced(case: &Case, log: &LegalLog<'_>, (period, mode): (u16, Mode)) {
     if period == 0 {
         return case.unread();
     }
@@ -121,12 +121,12 @@ fn put_sourced(case: &mut Case<'_>, log: &LegalLog<'_>, (period, mode): (u16, Mo
 }
 
 /// Reads the settings of an encoder.
-pub(crate) fn settings_of(case: &mut Case<'_>) -> (u16, Mode) {
+pub(crate) fn settings_of(case: &Case) -> (u16, Mode) {
     (case.next_short(), next_mode(case))
 }
 
 /// Appends what an encoder and a source give of a log in other ways, where it is not what came in the first.
-fn put_others(case: &mut Case<'_>, program: &Program, log: &[Event], settings: (u16, Mode)) {
+fn put_others(case: &Case, program: &Program, log: &[Event], settings: (u16, Mode)) {
     put_pushed(case, program, log, settings, Way::UntilPacket);
     case.end_way("until a packet");
     let Some(legal) = legal_log(case, program, log) else {
@@ -141,7 +141,7 @@ fn put_others(case: &mut Case<'_>, program: &Program, log: &[Event], settings: (
 }
 
 /// `encode PERIOD MODE ROWS`: the payloads of a log, by an encoder and by a source.
-pub(crate) fn encode_case(case: &mut Case<'_>, program: &Program) {
+pub(crate) fn encode_case(case: &Case, program: &Program) {
     let settings = settings_of(case);
     let log = events_of(case);
     put_pushed(case, program, log.as_slice(), settings, Way::Singly);
@@ -150,7 +150,7 @@ pub(crate) fn encode_case(case: &mut Case<'_>, program: &Program) {
 }
 
 /// `encode-alike ROWS`: what differs between the ways to encode a log, at several periods and in both modes.
-pub(crate) fn encode_alike_case(case: &mut Case<'_>, program: &Program) {
+pub(crate) fn encode_alike_case(case: &Case, program: &Program) {
     let log = events_of(case);
     let log = log.as_slice();
     for period in [1u16, 2, 1_024] {

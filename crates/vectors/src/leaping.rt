@@ -9,7 +9,7 @@ use std::alloc::Global;
 /// Two decoders take an address packet after a synchronisation at the base, one of them along skips. Whether all that
 /// they return and add is the same.
 fn are_alike(
-    case: &mut Case<'_>,
+    case: &Case,
     program: &Program,
     lines: &StraightRuns<'_, Global>,
     sent: Packet,
@@ -34,14 +34,14 @@ fn are_alike(
 
 /// `leap PLACES PACKETS`: how many walks give the same along skips: with each of these address packets, `MAP/REPORT`,
 /// to each of so many places, two bytes apart.
-pub(crate) fn leap_case(case: &mut Case<'_>, program: &Program) {
+pub(crate) fn leap_case(case: &Case, program: &Program) {
     let places = case.next_decimal().min(1 << 32);
     let mut lines = StraightRuns::new(case.alloc, &*program);
     let done = lines.find(case.alloc);
     case.note(done);
     let mut count: u64 = 0;
     for place in 0..places {
-        for word in case.text.split_whitespace() {
+        for word in case.text().split_whitespace() {
             let (digits, report) = cut(word, '/');
             let sent = Packet::Address {
                 outcomes: outcomes_of(digits),

@@ -10,7 +10,7 @@ use message::{HartRange, NoProgress};
 use symbols::Symbols;
 
 /// `dump-capture`: the text of the capture.
-pub(crate) fn dump_capture_case(case: &mut Case<'_>, bytes: &[u8]) {
+pub(crate) fn dump_capture_case(case: &Case, bytes: &[u8]) {
     let mut text = Vec::new(case.alloc);
     match dump_capture(bytes, &mut text) {
         Ok(dumped) => {
@@ -28,7 +28,7 @@ pub(crate) fn dump_capture_case(case: &mut Case<'_>, bytes: &[u8]) {
 }
 
 /// Appends the listing of a capture, and how many of its harts are closed.
-fn put_listing(case: &mut Case<'_>, captured: Captured<'_>, harts: u16, symbols: Option<&Symbols>) {
+fn put_listing(case: &Case, captured: Captured<'_>, harts: u16, symbols: Option<&Symbols>) {
     let input = ListInput {
         program: captured.program,
         harts,
@@ -55,9 +55,9 @@ fn put_listing(case: &mut Case<'_>, captured: Captured<'_>, harts: u16, symbols:
 
 /// `list-capture HARTS`, `list-capture HARTS "SYMBOLS"`: the listing of the capture, with places named by symbols where
 /// there are some, and how many harts are closed.
-pub(crate) fn list_capture_case(case: &mut Case<'_>, captured: Captured<'_>) {
+pub(crate) fn list_capture_case(case: &Case, captured: Captured<'_>) {
     let harts = case.next_short();
-    if case.text.is_empty() {
+    if case.text().is_empty() {
         return put_listing(case, captured, harts, None);
     }
     let symbols = Symbols::new(case.alloc, text_of(case));
@@ -68,7 +68,7 @@ pub(crate) fn list_capture_case(case: &mut Case<'_>, captured: Captured<'_>) {
 
 /// Appends how many messages of a hart were sent, came and are lost, what else became of them, and the runs of those that are
 /// lost.
-fn put_hart(case: &mut Case<'_>, audit: &Audit<'_>, hart: usize) {
+fn put_hart(case: &Case, audit: &Audit<'_>, hart: usize) {
     if hart < audit.harts() {
         let tally = audit.tally(hart);
         let counts = [tally.sent, tally.came, tally.lost];
@@ -92,8 +92,8 @@ fn put_hart(case: &mut Case<'_>, audit: &Audit<'_>, hart: usize) {
 
 /// `audit-capture LOST`: what an audit finds where all messages of the capture come in order but for those that are
 /// lost, for each hart.
-pub(crate) fn audit_capture_case(case: &mut Case<'_>, bytes: &[u8]) {
-    let lost = case.text;
+pub(crate) fn audit_capture_case(case: &Case, bytes: &[u8]) {
+    let lost = case.text();
     let read = read_messages(case.alloc, bytes);
     let Some(read) = case.read(read) else {
         return;

@@ -12,7 +12,6 @@ use salvaging::{
     FarNumber, FarTreatment, Part as Salvage, Reason, Salvaged, SalvagedHart, Treated, Treatment,
     far_numbers, salvage, treat_watched,
 };
-use std::mem;
 
 /// Where events are in a log, at this place or after it.
 fn position_of(log: &[Event], events: &[Event], from: usize) -> Option<usize> {
@@ -27,7 +26,7 @@ fn position_of(log: &[Event], events: &[Event], from: usize) -> Option<usize> {
 }
 
 /// Appends a place, with two digits at least.
-fn put_place(case: &mut Case<'_>, place: usize) {
+fn put_place(case: &Case, place: usize) {
     if place < 10 {
         case.put("0");
     }
@@ -36,12 +35,7 @@ fn put_place(case: &mut Case<'_>, place: usize) {
 
 /// Appends the places that events have in a log, from the first up to the one after the last; or the events where they
 /// are not there. Returns the place after them.
-pub(crate) fn put_places(
-    case: &mut Case<'_>,
-    log: &[Event],
-    events: &[Event],
-    from: usize,
-) -> usize {
+pub(crate) fn put_places(case: &Case, log: &[Event], events: &[Event], from: usize) -> usize {
     match position_of(log, events, from) {
         Some(first) => {
             let end = first.saturating_add(events.len());
@@ -58,12 +52,12 @@ pub(crate) fn put_places(
 }
 
 /// Appends whether a hart is closed.
-pub(crate) fn put_end(case: &mut Case<'_>, closed: bool) {
+pub(crate) fn put_end(case: &Case, closed: bool) {
     case.put_word(if closed { "closed" } else { "open" });
 }
 
 /// Appends the parts of a hart, each stretch by its places in the log, and whether the hart is closed.
-fn put_pieces(case: &mut Case<'_>, log: &[Event], pieces: &HartPieces) {
+fn put_pieces(case: &Case, log: &[Event], pieces: &HartPieces) {
     let mut from = 0;
     for part in pieces.parts.as_slice() {
         match part {
@@ -81,7 +75,7 @@ fn put_pieces(case: &mut Case<'_>, log: &[Event], pieces: &HartPieces) {
 }
 
 /// Appends the text of harts that are alike, from the first to before the end.
-fn put_alike(case: &mut Case<'_>, first: usize, end: usize, text: &str) {
+fn put_alike(case: &Case, first: usize, end: usize, text: &str) {
     let last = end.saturating_sub(1);
     if first > 0 {
         case.put("; ");
@@ -95,8 +89,8 @@ fn put_alike(case: &mut Case<'_>, first: usize, end: usize, text: &str) {
 }
 
 /// Names harts with the same text together, where the text of each came in a line since the case kept what came before.
-pub(crate) fn join_harts(case: &mut Case<'_>) {
-    let lines = mem::replace(&mut case.came, String::new(case.alloc));
+pub(crate) fn join_harts(case: &Case) {
+    let lines = case.taken();
     let texts = lines.as_str().trim_end_matches('\n');
     let (mut first, mut count) = (0usize, 0usize);
     for (text, next) in texts.split('\n').zip(texts.split('\n').skip(1)) {
@@ -113,7 +107,7 @@ pub(crate) fn join_harts(case: &mut Case<'_>) {
 }
 
 /// Appends why nothing is collected.
-fn put_fault(case: &mut Case<'_>, fault: LossyFault) {
+fn put_fault(case: &Case, fault: LossyFault) {
     if let LossyFault::Demux(place, _) | LossyFault::Decode(place, _) = fault {
         case.put_filled("message #: ", &[place as u64]);
     }
@@ -121,7 +115,7 @@ fn put_fault(case: &mut Case<'_>, fault: LossyFault) {
 }
 
 /// Appends what is left of the logs of harts.
-fn put_collected(case: &mut Case<'_>, log: &[Event], collected: &[HartPieces]) {
+fn put_collected(case: &Case, log: &[Event], collected: &[HartPieces]) {
     case.keep();
     for pieces in collected {
         put_pieces(case, log, pieces);
@@ -131,7 +125,7 @@ fn put_collected(case: &mut Case<'_>, log: &[Event], collected: &[HartPieces]) {
 }
 
 /// Whether the message with this number is lost: it is one of these digits, or for `R/M` leaves the rest R by M.
-pub(crate) fn is_lost(case: &mut Case<'_>, lost: &str, number: u64) -> bool {
+pub(crate) fn is_lost(case: &Case, lost: &str, number: u64) -> bool {
     if let Some((rest, by)) = lost.split_once('/') {
         let (rest, by) = (case.decimal(rest), case.decimal(by));
         return by > 0 && number % by == rest;
@@ -145,7 +139,7 @@ pub(crate) fn is_lost(case: &mut Case<'_>, lost: &str, number: u64) -> bool {
 }
 
 /// The messages of hart 0 with these payloads, but for those that are lost.
-fn messages_but(case: &mut Case<'_>, payloads: &[Payload], lost: &str) -> Vec<Message> {
+fn messages_but(case: &Case, payloads: &[Payload], lost: &str) -> Vec<Message> {
     let mut messages = Vec::new(case.alloc);
     for (number, payload) in payloads.iter().enumerate() {
         let number = number as u64;
@@ -157,14 +151,14 @@ fn messages_but(case: &mut Case<'_>, payloads: &[Payload], lost: &str) -> Vec<Me
 }
 
 /// Appends why a message is bad.
-fn put_why(case: &mut Case<'_>, why: Reason) {
+fn put_why(case: &Case, why: Reason) {
     case.put("(");
     case.put_shown(why);
     case.put(")");
 }
 
 /// Appends a far number, and what is done with its message where that is not decoded.
-fn put_far(case: &mut Case<'_>, far: FarNumber) {
+fn put_far(case: &Case, far: FarNumber) {
     case.put_filled("far #@#", &[far.number, far.place as u64]);
     match far.treatment {
         FarTreatment::Taken => {}
@@ -175,7 +169,7 @@ fn put_far(case: &mut Case<'_>, far: FarNumber) {
 
 /// Appends what is reported of the gap at this place among those of a hart, after so many far numbers: how many numbers are
 /// missing, or the next far number. Returns how many far numbers there are then.
-fn put_gap(case: &mut Case<'_>, hart: &SalvagedHart, at: usize, before: usize) -> usize {
+fn put_gap(case: &Case, hart: &SalvagedHart, at: usize, before: usize) -> usize {
     match hart.gaps.as_slice().get(at) {
         Some(missing) if *missing > 0 => {
             case.put_filled("gap #", &[*missing]);
@@ -191,7 +185,7 @@ fn put_gap(case: &mut Case<'_>, hart: &SalvagedHart, at: usize, before: usize) -
 }
 
 /// Appends a part of what is salvaged but a gap, and returns the place in the log after it.
-fn put_part(case: &mut Case<'_>, log: &[Event], part: &Salvage, from: usize) -> usize {
+fn put_part(case: &Case, log: &[Event], part: &Salvage, from: usize) -> usize {
     match part {
         Salvage::Gap(_) => {}
         Salvage::Stretch {
@@ -221,7 +215,7 @@ fn put_part(case: &mut Case<'_>, log: &[Event], part: &Salvage, from: usize) -> 
 }
 
 /// Appends how many messages are of a kind, if there are some.
-fn put_count(case: &mut Case<'_>, kind: &str, count: u64) {
+fn put_count(case: &Case, kind: &str, count: u64) {
     if count > 0 {
         case.put_word(kind);
         case.put_word(count);
@@ -230,7 +224,7 @@ fn put_count(case: &mut Case<'_>, kind: &str, count: u64) {
 
 /// Appends what is salvaged of a hart: the numbers of each stretch with its places in the log, what else is left, how
 /// many messages are copies and late, and whether the hart is closed.
-fn put_hart(case: &mut Case<'_>, log: &[Event], hart: &SalvagedHart) {
+fn put_hart(case: &Case, log: &[Event], hart: &SalvagedHart) {
     let mut from = 0;
     let mut gaps: usize = 0;
     let mut far = 0;
@@ -248,7 +242,7 @@ fn put_hart(case: &mut Case<'_>, log: &[Event], hart: &SalvagedHart) {
 }
 
 /// Appends what is salvaged.
-fn put_salvaged(case: &mut Case<'_>, log: &[Event], salvaged: &Salvaged) {
+fn put_salvaged(case: &Case, log: &[Event], salvaged: &Salvaged) {
     case.keep();
     for hart in salvaged.harts.as_slice() {
         put_hart(case, log, hart);
@@ -261,13 +255,13 @@ fn put_salvaged(case: &mut Case<'_>, log: &[Event], salvaged: &Salvaged) {
 }
 
 /// The messages of a capture, in their order or `turned`, the last one first.
-fn messages_in(case: &mut Case<'_>, bytes: &[u8]) -> Vec<Message> {
+fn messages_in(case: &Case, bytes: &[u8]) -> Vec<Message> {
     let mut messages = Vec::new(case.alloc);
     let read = read_messages(case.alloc, bytes);
     let Some(read) = case.read(read) else {
         return messages;
     };
-    let is_turned = case.text == "turned";
+    let is_turned = case.text() == "turned";
     let count = read.messages.len();
     for place in 0..count {
         let turned = count.saturating_sub(place.saturating_add(1));
@@ -281,9 +275,9 @@ fn messages_in(case: &mut Case<'_>, bytes: &[u8]) -> Vec<Message> {
 }
 
 /// The messages of two harts, `HART.NUMBER`, that each have the payload with their number.
-fn messages_drawn(case: &mut Case<'_>, payloads: &[Payload]) -> Vec<Message> {
+fn messages_drawn(case: &Case, payloads: &[Payload]) -> Vec<Message> {
     let mut messages = Vec::new(case.alloc);
-    for word in case.text.split_whitespace() {
+    for word in case.text().split_whitespace() {
         let (hart, number) = cut(word, '.');
         let place = (case.short(hart), case.decimal(number));
         match payloads.get(place.1 as usize) {
@@ -295,7 +289,7 @@ fn messages_drawn(case: &mut Case<'_>, payloads: &[Payload]) -> Vec<Message> {
 }
 
 /// Appends what is done with a message.
-fn put_treated(case: &mut Case<'_>, treated: &Treated) {
+fn put_treated(case: &Case, treated: &Treated) {
     if treated.far {
         case.put_word("far");
     }
@@ -335,7 +329,7 @@ pub(crate) enum Done {
 
 /// Appends what is done with messages of so many harts, by places in the log.
 fn put_done(
-    case: &mut Case<'_>,
+    case: &Case,
     captured: Captured<'_>,
     (harts, mode): (u16, Mode),
     messages: &[Message],
@@ -365,7 +359,7 @@ fn put_done(
 /// `collect HARTS MODE MESSAGES`: what is left of the logs of harts; `salvage`: what is salvaged of the messages; both by
 /// places in the log. `treat`: what is done with each message. One that is taken adds so many events, from a place to
 /// another one.
-pub(crate) fn messages_case(case: &mut Case<'_>, captured: Captured<'_>, done: Done) {
+pub(crate) fn messages_case(case: &Case, captured: Captured<'_>, done: Done) {
     let settings = (case.next_short(), next_mode(case));
     let messages = messages_of(case);
     put_done(case, captured, settings, messages.as_slice(), done);
@@ -373,7 +367,7 @@ pub(crate) fn messages_case(case: &mut Case<'_>, captured: Captured<'_>, done: D
 
 /// `collect-capture HARTS MODE`, `salvage-capture HARTS MODE`, or with `turned` after it: the same of the messages of the
 /// capture.
-pub(crate) fn capture_case(case: &mut Case<'_>, captured: Captured<'_>, done: Done) {
+pub(crate) fn capture_case(case: &Case, captured: Captured<'_>, done: Done) {
     let settings = (case.next_short(), next_mode(case));
     let messages = messages_in(case, captured.bytes);
     put_done(case, captured, settings, messages.as_slice(), done);
@@ -382,14 +376,14 @@ pub(crate) fn capture_case(case: &mut Case<'_>, captured: Captured<'_>, done: Do
 /// `lossy PERIOD MODE LOST`: how many messages the log has, and what is left of it where these are lost. `drawn PERIOD MODE
 /// MESSAGES`: what is salvaged of messages of two harts, `HART.NUMBER`, that each have the payload with their number of
 /// the log.
-pub(crate) fn log_case(case: &mut Case<'_>, captured: Captured<'_>, done: Done) {
+pub(crate) fn log_case(case: &Case, captured: Captured<'_>, done: Done) {
     let settings = settings_of(case);
     let Some(legal) = legal_log(case, captured.program, captured.log) else {
         return;
     };
     let payloads = sourced(case, &legal, settings);
     if let Done::Collected = done {
-        let lost = case.text;
+        let lost = case.text();
         let messages = messages_but(case, payloads.as_slice(), lost);
         case.put_filled("of #: ", &[payloads.len() as u64]);
         put_done(case, captured, (1, settings.1), messages.as_slice(), done);
@@ -400,9 +394,9 @@ pub(crate) fn log_case(case: &mut Case<'_>, captured: Captured<'_>, done: Done) 
 }
 
 /// The messages of a hart with these numbers: `N`, or `A-B` for all from A to B. The payload is 00, or the one after a `:`.
-fn numbered_messages(case: &mut Case<'_>) -> Vec<Message> {
+fn numbered_messages(case: &Case) -> Vec<Message> {
     let mut messages = Vec::new(case.alloc);
-    for word in case.text.split_whitespace() {
+    for word in case.text().split_whitespace() {
         let (numbers, digits) = cut(word, ':');
         let (first, last) = numbers.split_once('-').unwrap_or((numbers, numbers));
         let (first, last) = (case.decimal(first), case.decimal(last));
@@ -415,7 +409,7 @@ fn numbered_messages(case: &mut Case<'_>) -> Vec<Message> {
 }
 
 /// `far NUMBERS`: the far numbers of a hart whose messages come in this order.
-pub(crate) fn far_case(case: &mut Case<'_>) {
+pub(crate) fn far_case(case: &Case) {
     let messages = numbered_messages(case);
     let numbers = far_numbers(case.alloc, messages.as_slice());
     if let Some(numbers) = case.granted(numbers) {

@@ -32,9 +32,9 @@ fn play_files<R: Eprint + AllocGlobal + Threads + Sync>(
     files: &[DataFile],
 ) -> io::Result<()> {
     for line in &lines_of(rt.alloc(), files)? {
-        let mut case = Case::new(rt.alloc(), line.case());
-        vectors.answer(rt, &mut case);
-        tally.judge(rt, line, &mut case)?;
+        let case = Case::new(rt.alloc(), line.case());
+        vectors.answer(rt, &case);
+        tally.judge(rt, line, &case)?;
     }
     Ok(())
 }

@@ -37,7 +37,7 @@ fn counted(asked: Asked<'_>, pieces: [&[Event]; 3]) -> Measures
 }
 
 /// What is counted of the events of a log one at a time.
-fn counted_singly(case: &mut Case<'_>, asked: Asked<'_>) -> Measures {
+fn counted_singly(case: &Case, asked: Asked<'_>) -> Measures {
     let mut measures = LogMeasures::new(asked.period.max(1), asked.mode);
     for event in asked.log {
         if measures.rows() <= 1_000 {
@@ -51,7 +51,7 @@ fn counted_singly(case: &mut Case<'_>, asked: Asked<'_>) -> Measures {
 }
 
 /// Appends something else that is counted in another way.
-fn put_other(case: &mut Case<'_>, way: &str, found: Measures, wanted: Measures) {
+fn put_other(case: &Case, way: &str, found: Measures, wanted: Measures) {
     if found != wanted {
         case.put_word(way);
         case.put_word("");
@@ -60,7 +60,7 @@ fn put_other(case: &mut Case<'_>, way: &str, found: Measures, wanted: Measures) 
 }
 
 /// Appends what else is counted of a log that is cut in two, of which the back is also cut.
-fn put_cut(case: &mut Case<'_>, asked: Asked<'_>, first: usize, wanted: Measures) {
+fn put_cut(case: &Case, asked: Asked<'_>, first: usize, wanted: Measures) {
     let (front, rest) = asked.log.split_at(first.min(asked.log.len()));
     put_other(case, "in two", counted(asked, [front, rest, &[]]), wanted);
     put_other(
@@ -76,7 +76,7 @@ fn put_cut(case: &mut Case<'_>, asked: Asked<'_>, first: usize, wanted: Measures
 }
 
 /// Appends what else is counted of a log in other ways: where it is legal, and in pieces, wherever it is cut.
-fn put_others(case: &mut Case<'_>, asked: Asked<'_>, wanted: Measures) {
+fn put_others(case: &Case, asked: Asked<'_>, wanted: Measures) {
     if let Some(legal) = legal_log(case, asked.program, asked.log) {
         let whole = measure(&legal, asked.period.max(1), asked.mode);
         put_other(case, "of a legal log", whole, wanted);
@@ -88,7 +88,7 @@ fn put_others(case: &mut Case<'_>, asked: Asked<'_>, wanted: Measures) {
 
 /// `count PERIOD MODE ROWS`: what is counted of a log, one event at a time; so of it as a whole, and in two and three
 /// pieces, wherever it is cut.
-pub(crate) fn count_case(case: &mut Case<'_>, program: &Program) {
+pub(crate) fn count_case(case: &Case, program: &Program) {
     let (period, mode) = settings_of(case);
     let log = events_of(case);
     if period == 0 || log.len() > MOST_CUT {
@@ -106,7 +106,7 @@ pub(crate) fn count_case(case: &mut Case<'_>, program: &Program) {
 }
 
 /// `count-alike ROWS`: what differs between the ways to count a log, at several periods and in both modes.
-pub(crate) fn count_alike_case(case: &mut Case<'_>, program: &Program) {
+pub(crate) fn count_alike_case(case: &Case, program: &Program) {
     let log = events_of(case);
     if log.len() > MOST_CUT {
         return case.unread();
@@ -126,17 +126,16 @@ pub(crate) fn count_alike_case(case: &mut Case<'_>, program: &Program) {
 }
 
 /// Reads the events of the next log, up to a `|`.
-fn next_log(case: &mut Case<'_>) -> Vec<Event> {
-    let mut own = case.again();
-    own.text = case.part('|');
-    let events = events_of(&mut own);
+fn next_log(case: &Case) -> Vec<Event> {
+    let own = case.over(case.part('|'));
+    let events = events_of(&own);
     case.join(&own);
     events
 }
 
 /// The legal logs of so many harts: two, one after the other, over and over.
 fn logs_of<'p>(
-    case: &mut Case<'_>,
+    case: &Case,
     program: &'p Program,
     harts: u16,
     (even, odd): (&[Event], &[Event]),
@@ -152,7 +151,7 @@ fn logs_of<'p>(
 }
 
 /// Appends the table of these measures.
-fn put_table(case: &mut Case<'_>, each: &[Measures])
+fn put_table(case: &Case, each: &[Measures])
     requires few { length each.now ≤ 2 }
     requires within { All (AreWithin most_counted) each.now }
 {
@@ -163,7 +162,7 @@ fn put_table(case: &mut Case<'_>, each: &[Measures])
 }
 
 /// Appends the table of the logs of harts.
-fn put_logs(case: &mut Case<'_>, logs: &[LegalLog<'_>], (period, mode): (u16, Mode)) {
+fn put_logs(case: &Case, logs: &[LegalLog<'_>], (period, mode): (u16, Mode)) {
     if period == 0 || logs.len() > 1_024 {
         return case.unread();
     }
@@ -189,7 +188,7 @@ fn counted_whole(program: &Program, log: &[Event], settings: (u16, Mode)) -> Mea
 
 /// `measure PERIOD MODE HARTS LOG | LOG`: the table of harts, of which each second one has the second log.
 /// `measure-counted`: of at most two harts, by what is counted of their logs.
-pub(crate) fn measure_case(case: &mut Case<'_>, program: &Program, verb: &str) {
+pub(crate) fn measure_case(case: &Case, program: &Program, verb: &str) {
     let settings = settings_of(case);
     let harts = case.next_short();
     let (even, odd) = (next_log(case), next_log(case));

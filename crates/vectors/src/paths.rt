@@ -11,7 +11,7 @@ use symbols::Symbols;
 pub(crate) const MOST_CUT: usize = 100;
 
 /// Appends what a log is found to be.
-fn put_found(case: &mut Case<'_>, log: &[Event], found: Result<(), PathFault>) {
+fn put_found(case: &Case, log: &[Event], found: Result<(), PathFault>) {
     match found {
         Ok(()) => case.put_filled("legal, # events", &[log.len() as u64]),
         Err(fault) => case.put_shown(fault),
@@ -29,7 +29,7 @@ fn checked_in_pieces(program: &Program, front: &[Event], back: &[Event]) -> Resu
 }
 
 /// Appends what a list that is kept with its program is found to be, and where it is not given back.
-fn put_kept(case: &mut Case<'_>, program: &Program, log: &[Event]) {
+fn put_kept(case: &Case, program: &Program, log: &[Event]) {
     let list = case.copied(log);
     if list.len() > 1 << 24 {
         return case.unread();
@@ -49,7 +49,7 @@ fn put_kept(case: &mut Case<'_>, program: &Program, log: &[Event]) {
 
 /// `check ROWS`: whether a log is legal, and the first fault of one that is not; so in two pieces, wherever it is cut, and
 /// where it is kept with its program.
-pub(crate) fn check_case(case: &mut Case<'_>, program: &Program) {
+pub(crate) fn check_case(case: &Case, program: &Program) {
     let log = events_of(case);
     let log = log.as_slice();
     if log.len() > 1 << 24 {
@@ -69,7 +69,7 @@ pub(crate) fn check_case(case: &mut Case<'_>, program: &Program) {
 }
 
 /// `successor ROW`: where an event leads.
-pub(crate) fn successor_case(case: &mut Case<'_>, program: &Program) {
+pub(crate) fn successor_case(case: &Case, program: &Program) {
     let log = events_of(case);
     let Some(event) = log.first() else {
         return case.unread();
@@ -82,7 +82,7 @@ pub(crate) fn successor_case(case: &mut Case<'_>, program: &Program) {
 }
 
 /// Appends the lines that explain a fault of a log, and whether they are others by its row and the one before it alone.
-fn put_explained(case: &mut Case<'_>, program: &Program, log: &[Event], fault: PathFault) {
+fn put_explained(case: &Case, program: &Program, log: &[Event], fault: PathFault) {
     let mut lines = Vec::new(case.alloc);
     let written = explain(program, log, fault, None::<&Symbols>, &mut lines);
     case.granted(written);
@@ -100,7 +100,7 @@ fn put_explained(case: &mut Case<'_>, program: &Program, log: &[Event], fault: P
 }
 
 /// `explain ROWS`: why a log is not legal, and the lines that explain it.
-pub(crate) fn explain_case(case: &mut Case<'_>, program: &Program) {
+pub(crate) fn explain_case(case: &Case, program: &Program) {
     let log = events_of(case);
     let log = log.as_slice();
     if log.len() > 1 << 24 {
@@ -115,20 +115,21 @@ pub(crate) fn explain_case(case: &mut Case<'_>, program: &Program) {
 
 /// `explain-types ROWS`: the lines that explain a row as one of a wrong type. Those of the first two rows come, and those
 /// that are not as two rows before.
-pub(crate) fn explain_types_case(case: &mut Case<'_>, program: &Program) {
+pub(crate) fn explain_types_case(case: &Case, program: &Program) {
     let log = events_of(case);
-    let mut texts = [case.again(), case.again()];
+    let mut texts = [String::new(case.alloc), String::new(case.alloc)];
     for row in 1..log.len().saturating_add(1) {
         let fault = PathFault {
             row: row.min(1 << 24) as u32,
             why: Why::WrongType,
         };
-        let mut text = case.again();
-        put_explained(&mut text, program, log.as_slice(), fault);
+        let own = case.over("");
+        put_explained(&own, program, log.as_slice(), fault);
+        case.join(&own);
+        let text = own.taken();
         let before = &mut texts[row % 2];
-        if before.came.as_str() != text.came.as_str() {
-            case.put_word("");
-            case.put_first(&text);
+        if before.as_str() != text.as_str() {
+            case.put_word(text.as_str());
             *before = text;
         }
     }

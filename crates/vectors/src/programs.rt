@@ -14,7 +14,7 @@ enum Held {
 }
 
 /// Pieces, with a `+` between two of them.
-fn pieces_of(case: &mut Case<'_>, text: &str) -> Vec<Piece> {
+fn pieces_of(case: &Case, text: &str) -> Vec<Piece> {
     let mut pieces = Vec::new(case.alloc);
     for words in text.split('+') {
         let piece = piece_of(case, words);
@@ -24,7 +24,7 @@ fn pieces_of(case: &mut Case<'_>, text: &str) -> Vec<Piece> {
 }
 
 /// Appends why a piece is refused.
-fn put_refusal(case: &mut Case<'_>, added: Result<(), PieceFault>) {
+fn put_refusal(case: &Case, added: Result<(), PieceFault>) {
     if let Err(fault) = added {
         case.put_word(fault);
         case.put(";");
@@ -32,14 +32,14 @@ fn put_refusal(case: &mut Case<'_>, added: Result<(), PieceFault>) {
 }
 
 /// Appends a base and how many bytes there are.
-fn put_extent(case: &mut Case<'_>, base: u64, count: usize) {
+fn put_extent(case: &Case, base: u64, count: usize) {
     case.put_word("");
     case.put_hex(base);
     case.put_filled("+#", &[count as u64]);
 }
 
 /// Appends what stands at addresses: the byte, and what is fetched.
-fn put_standing(case: &mut Case<'_>, memory: &Memory<'_>, addrs: &str) {
+fn put_standing(case: &Case, memory: &Memory<'_>, addrs: &str) {
     let mut near = 0;
     for digits in addrs.split_whitespace() {
         let addr = case.hex(digits);
@@ -66,7 +66,7 @@ fn put_standing(case: &mut Case<'_>, memory: &Memory<'_>, addrs: &str) {
 
 /// Appends what is said of the memory of pieces, each of which is added to those before it: why one is refused, the base and
 /// how many bytes there are of all those that are not and of each, and what stands at addresses.
-fn put_memory(case: &mut Case<'_>, pieces: &[Piece], addrs: &str, held: Held) {
+fn put_memory(case: &Case, pieces: &[Piece], addrs: &str, held: Held) {
     let Some(((base, bytes), others)) = pieces.split_first() else {
         return case.unread();
     };
@@ -97,9 +97,9 @@ fn put_memory(case: &mut Case<'_>, pieces: &[Piece], addrs: &str, held: Held) {
 
 /// `memory PIECES`, or `memory PIECES ? ADDRS`: the memory of pieces, and what stands at addresses, whether it has its
 /// bytes itself or not.
-pub(crate) fn memory_case(case: &mut Case<'_>) {
+pub(crate) fn memory_case(case: &Case) {
     let text = case.part('?');
-    let addrs = case.text;
+    let addrs = case.text();
     let pieces = pieces_of(case, text);
     put_memory(case, pieces.as_slice(), addrs, Held::Owned);
     case.end_first_way();
@@ -108,7 +108,7 @@ pub(crate) fn memory_case(case: &mut Case<'_>) {
 }
 
 /// Appends how control goes on from an instruction.
-fn put_class(case: &mut Case<'_>, class: Class) {
+fn put_class(case: &Case, class: Class) {
     let (name, to) = match class {
         Class::Plain => ("plain", None),
         Class::Jump(to) => ("jump:", Some(to)),
@@ -125,7 +125,7 @@ fn put_class(case: &mut Case<'_>, class: Class) {
 }
 
 /// Appends the instruction at an address: its bits, with as many digits as it has, and how control goes on from it.
-fn put_instruction(case: &mut Case<'_>, program: &ProgramOver<'_>, near: &mut usize, addr: u64) {
+fn put_instruction(case: &Case, program: &ProgramOver<'_>, near: &mut usize, addr: u64) {
     let found = program.at(addr);
     if program.at_near(near, addr) != found {
         case.put_word("near");
@@ -146,7 +146,7 @@ fn put_instruction(case: &mut Case<'_>, program: &ProgramOver<'_>, near: &mut us
 }
 
 /// Appends the extents of a program, and the instructions at addresses.
-fn put_program(case: &mut Case<'_>, program: &ProgramOver<'_>, addrs: &str) {
+fn put_program(case: &Case, program: &ProgramOver<'_>, addrs: &str) {
     put_extent(case, program.base(), program.byte_count());
     case.put(":");
     for number in 0..program.piece_count().saturating_add(1) {
@@ -162,7 +162,7 @@ fn put_program(case: &mut Case<'_>, program: &ProgramOver<'_>, addrs: &str) {
 }
 
 /// The program that has the bytes of pieces itself, if the first of them makes one. Appends why one is refused.
-fn program_of(case: &mut Case<'_>, pieces: &[Piece]) -> Option<Program> {
+fn program_of(case: &Case, pieces: &[Piece]) -> Option<Program> {
     let ((base, bytes), others) = pieces.split_first()?;
     let mut program = match Program::new(*base, case.copied(bytes.as_slice())) {
         Ok(program) => program,
@@ -179,7 +179,7 @@ fn program_of(case: &mut Case<'_>, pieces: &[Piece]) -> Option<Program> {
 }
 
 /// Appends what is said of the program of pieces that it borrows.
-fn put_borrowed(case: &mut Case<'_>, pieces: &[Piece], addrs: &str) {
+fn put_borrowed(case: &Case, pieces: &[Piece], addrs: &str) {
     let Some(((base, bytes), others)) = pieces.split_first() else {
         return case.unread();
     };
@@ -196,10 +196,10 @@ fn put_borrowed(case: &mut Case<'_>, pieces: &[Piece], addrs: &str) {
 
 /// `program PIECES`: the program of the cases after it. `program PIECES ? ADDRS`: also its pieces and the instructions at
 /// addresses, whether it has its bytes itself or not. Why a piece is refused comes first.
-pub(crate) fn program_case(case: &mut Case<'_>) -> Option<Program> {
-    let only_sets = !case.text.contains('?');
+pub(crate) fn program_case(case: &Case) -> Option<Program> {
+    let only_sets = !case.text().contains('?');
     let text = case.part('?');
-    let addrs = case.text;
+    let addrs = case.text();
     let pieces = pieces_of(case, text);
     let made = program_of(case, pieces.as_slice());
     if only_sets {

@@ -32,7 +32,7 @@ pub(crate) struct Vectors {
 }
 
 /// The case of a verb over a log in its arguments, or none.
-fn ask_arguments(case: &mut Case<'_>, program: &Program, verb: &str) {
+fn ask_arguments(case: &Case, program: &Program, verb: &str) {
     match verb {
         "check" => check_case(case, program),
         "successor" => successor_case(case, program),
@@ -49,7 +49,7 @@ fn ask_arguments(case: &mut Case<'_>, program: &Program, verb: &str) {
 }
 
 /// The case of a verb over packets and messages.
-fn ask_messages(case: &mut Case<'_>, captured: Captured<'_>, verb: &str) {
+fn ask_messages(case: &Case, captured: Captured<'_>, verb: &str) {
     match verb {
         "decode" => decode_case(case, captured.program, Asked::Rows),
         "answers" => decode_case(case, captured.program, Asked::Answers),
@@ -65,7 +65,7 @@ fn ask_messages(case: &mut Case<'_>, captured: Captured<'_>, verb: &str) {
 }
 
 /// The case of a verb over the log or the capture of the cases before.
-fn ask_captured(case: &mut Case<'_>, captured: Captured<'_>, verb: &str) {
+fn ask_captured(case: &Case, captured: Captured<'_>, verb: &str) {
     match verb {
         "read-capture" => read_capture_case(case, captured.bytes),
         "receive" => receive_case(case, captured),
@@ -93,7 +93,7 @@ impl Vectors {
     }
 
     /// Sets the capture of the log.
-    fn encode(&mut self, case: &mut Case<'_>) {
+    fn encode(&mut self, case: &Case) {
         let made = match &self.program {
             Some(program) => encode_capture_case(case, (program, self.log.as_slice())),
             None => return case.unread(),
@@ -102,7 +102,7 @@ impl Vectors {
     }
 
     /// The case of a verb by the program of the cases before.
-    fn ask<R: Threads + Sync>(&self, rt: &R, case: &mut Case<'_>, verb: &str) {
+    fn ask<R: Threads + Sync>(&self, rt: &R, case: &Case, verb: &str) {
         let Some(program) = &self.program else {
             return case.unread();
         };
@@ -121,9 +121,8 @@ impl Vectors {
     }
 
     /// Appends what a case gives. Where there is no such verb, or its arguments are not read, that is noted.
-    pub(crate) fn answer<R: Threads + Sync>(&mut self, rt: &R, case: &mut Case<'_>) {
+    pub(crate) fn answer<R: Threads + Sync>(&mut self, rt: &R, case: &Case) {
         let verb = case.word();
-        case.text = case.text.trim();
         match verb {
             "log" => {
                 case.sets();
@@ -131,7 +130,7 @@ impl Vectors {
             }
             "capture" => {
                 case.sets();
-                let digits = case.text;
+                let digits = case.text();
                 self.capture = bytes_of(case, digits);
             }
             "encode-capture" => self.encode(case),

@@ -7,9 +7,9 @@ use Rattle.message.specs.Capture.{capture}
 use Rattle.message.specs.Numbered.{messages_from}
 use Rattle.payload.specs.declared.mode.Mode.{Mode}
 
--- These are the bytes of the messages of the hart that has the log.
-abbrev pub IsEncodedLog : ℕ → ℕ → Mode → List ℕ → ProgramLog → Type 0
-IsEncodedLog hart period mode bytes log = bytes ≡ capture (messages_from hart 0 (payloads period mode log))
+-- The bytes of the messages of the hart that has the log are added.
+abbrev pub AddsLog : ℕ → ℕ → Mode → List ℕ → List ℕ → ProgramLog → Type 0
+AddsLog hart period mode old new log = new ≡ old ++ capture (messages_from hart 0 (payloads period mode log))
 
 -- The bytes of the messages of the harts that have the logs are added.
 abbrev pub AddsLogs : ℕ → Mode → List ℕ → List ℕ → List ProgramLog → Type 0

@@ -2,14 +2,9 @@
 use Rattle.std.specs.Prelude.{ℕ, ◌≡◌, All, List}
 use Rattle.legalpath.specs.ProgramLog.{ProgramLog}
 use Rattle.captures.specs.Bounds.{AreWithin, most_counted}
-use Rattle.captures.specs.Measures.{measures_of, measures_of_each}
+use Rattle.captures.specs.Measures.{measures_of_each}
 use Rattle.captures.specs.declared.measures.Measures.{Measures}
 use Rattle.payload.specs.declared.mode.Mode.{Mode}
-
--- This is what the log costs.
-pub record IsMeasured (period : ℕ) (mode : Mode) (measures : Measures) (log : ProgramLog) : Type 0 where
-  pub counted : measures ≡ measures_of period mode log
-  pub within : AreWithin most_counted measures
 
 -- This is what each of the logs costs.
 pub record AreMeasured (period : ℕ) (mode : Mode) (measures : List Measures) (logs : List ProgramLog) : Type 0 where

@@ -1,14 +1,8 @@
 -- Legal logs of texts, of which something holds.
-use Rattle.std.specs.Prelude.{ℕ, List, Option}
+use Rattle.std.specs.Prelude.{ℕ, List}
 use Rattle.legalpath.specs.ProgramLog.{ProgramLog}
 use Rattle.rvclass.specs.Image.{Image}
-use Rattle.ffi.specs.Encoded.{AreLogs, IsLegalText}
-
--- The text is that of a legal log, of which this holds.
-pub record IsTextOf (program : Image) (text : Option (List ℕ)) (Holds : ProgramLog → Type 0) : Type 0 where
-  pub log : ProgramLog
-  pub legal : IsLegalText program text log
-  pub holds : Holds log
+use Rattle.ffi.specs.Encoded.{AreLogs}
 
 -- The texts are those of legal logs, of which this holds.
 pub record AreTextsOf (program : Image) (bytes ends : List ℕ) (Holds : List ProgramLog → Type 0) : Type 0 where

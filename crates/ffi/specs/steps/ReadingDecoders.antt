@@ -1,5 +1,5 @@
 -- Numbers as the state of a decoder, if any has them.
-use Rattle.std.specs.Prelude.{ℕ, ◌==◌, ◌&&◌, Bool, nat_lt, if◌then◌else◌, Option, Some, None, min}
+use Rattle.std.specs.Prelude.{ℕ, ◌==◌, if◌then◌else◌, Option, Some, None, min}
 use Rattle.decoder.specs.declared.settling.Waiting.{Waiting}
 use Rattle.decoder.specs.declared.state.DecoderState.{DecoderState}
 use Rattle.decoder.specs.declared.state.Phase.{Phase}
@@ -10,8 +10,7 @@ use Rattle.payload.specs.declared.mode.Mode.{Mode}
 use Rattle.ffi.specs.declared.decoder_state.DecoderNumbers.{DecoderNumbers}
 use Rattle.ffi.specs.declared.decoder_state.TheConstants.{UNOPENED, RUNNING, PASSING_OVER}
 use Rattle.ffi.specs.steps.Reading.{mode_in}
-use Rattle.ffi.specs.steps.ReadingEvents.{event_if_any, is_any_read}
-use Rattle.ffi.specs.steps.ReadingStates.{are_outcomes_read}
+use Rattle.ffi.specs.steps.ReadingEvents.{event_if_any}
 
 -- The phase that has this number, if any has.
 abbrev pub phase_in : ℕ → Phase
@@ -46,20 +45,3 @@ state_in numbers = record {
   announced = announced_in numbers;
   reported = numbers.reported;
 }
-
--- Whether numbers are those of a mode that there may be by this flag.
-abbrev pub is_announced_read : ℕ → ℕ → Bool
-is_announced_read there mode = if there == 0 then mode == 0 else ((there == 1) && nat_lt mode 2)
-
--- Whether numbers are those of a packet that may wait by this flag.
-abbrev pub is_waiting_read : ℕ → ℕ → ℕ → ℕ → Bool
-is_waiting_read waits outcomes map delta =
-    if waits == 0 then ((outcomes == 0) && ((map == 0) && (delta == 0))) else
-    ((waits == 1) && are_outcomes_read outcomes map)
-
--- Whether numbers are those of the state that is read from them.
-abbrev pub is_state_read : DecoderNumbers → Bool
-is_state_read numbers =
-    nat_lt numbers.phase 4 && (nat_lt numbers.mode 2 && (is_announced_read numbers.is_announced numbers.announced
-    && (is_waiting_read numbers.waits numbers.outcomes numbers.map numbers.delta
-    && is_any_read numbers.has_last numbers.last)))

@@ -1,5 +1,5 @@
 -- Numbers as what an encoder keeps, if any has them.
-use Rattle.std.specs.Prelude.{ℕ, ◌==◌, ◌&&◌, ◌^◌, Bool, if◌then◌else◌, min, nat_lt}
+use Rattle.std.specs.Prelude.{ℕ, ◌==◌, if◌then◌else◌, min}
 use Rattle.encoder.specs.declared.due.Due.{Due}
 use Rattle.encoder.specs.declared.due.Due.TheVariants as due
 use Rattle.encoder.specs.declared.state.EncoderState.{EncoderState}
@@ -9,7 +9,7 @@ use Rattle.ffi.specs.declared.encoder_state.EncoderNumbers.{EncoderNumbers}
 use Rattle.ffi.specs.declared.encoder_state.TheConstants.{DUE_NOTHING, DUE_SYNC, DUE_TARGET}
 use Rattle.ffi.specs.declared.encoder_state.TheConstants.{DUE_TRAP, DUE_TRAP_OR_HANDLER}
 use Rattle.ffi.specs.steps.Reading.{mode_in}
-use Rattle.ffi.specs.steps.ReadingEvents.{event_if_any, is_any_read}
+use Rattle.ffi.specs.steps.ReadingEvents.{event_if_any}
 
 -- What is due that has this number, if anything has.
 abbrev pub due_in : ℕ → Due
@@ -32,13 +32,3 @@ state_in numbers = record {
   mode = mode_in numbers.mode;
   reported = numbers.reported;
 }
-
--- Whether as many outcomes fit into a packet, and have this map.
-abbrev pub are_outcomes_read : ℕ → ℕ → Bool
-are_outcomes_read count map = nat_lt count 32 && nat_lt map (2 ^ count)
-
--- Whether numbers are those of the state that is read from them.
-abbrev pub is_state_read : EncoderNumbers → Bool
-is_state_read numbers =
-    nat_lt numbers.mode 2 && (nat_lt numbers.due 6 && (are_outcomes_read numbers.outcomes numbers.map
-    && is_any_read numbers.holds numbers.held))

@@ -3,7 +3,7 @@ use Rattle.std.specs.Prelude.{ℕ, ◌≡◌, ◌+◌, ◌++◌, Bool, true, fal
 use Rattle.std.specs.Prelude.{length, slice_get, take}
 use Rattle.message.specs.declared.message.Message.{Message}
 use Rattle.auditing.specs.Fates.{is_numbered}
-use Rattle.live.specs.Following.{Audited, EndsWell, IsLookFault, Left, Reads, left_after}
+use Rattle.live.specs.Following.{Audited, EndsWell, IsLeftAt, IsLookFault, Left, Reads, left_after}
 use Rattle.live.specs.Holding.{Holding}
 use Rattle.live.specs.Holds.{Holds, IsReadFault}
 use Rattle.live.specs.declared.fault.LookFault.{LookFault}
@@ -16,7 +16,7 @@ IsNextSent all read own (Ok (Some message)) left =
     (slice_get all.sent read ≡ Some message) × (left ≡ left_after all (read + 1))
     × (refusal_by (slice_get own.harts message.hart) message.number ≡ None)
 IsNextSent all read own (Ok None) left = (read ≡ length all.sent) × (left ≡ left_after all read) × EndsWell all
-IsNextSent all read own (Err why) left = IsLookFault all read why
+IsNextSent all read own (Err why) left = IsLookFault all read why × IsLeftAt all read why left
 
 -- The next message of SENT was read, and it is the one of this hart with this number or not; or it is not read.
 abbrev pub IsReadLast : List Message → List Message → ℕ → Message → ℕ → ℕ → ℕ → ℕ → Result Bool LookFault → Holding → Type 0
@@ -30,7 +30,7 @@ IsReadLast sent came front message hart number harts window (Err (look.Source wh
 abbrev pub ReadsOne : Audited → ℕ → List Message → ℕ → Result Bool LookFault → Holding → Left → Type 0
 ReadsOne all read came front (Ok true) own left = Reads all (read + 1) came front own left
 ReadsOne all read came front (Ok false) own left =
-    Reads all read came front own left × (read ≡ length all.sent)
+    Reads all read came front own left × (read ≡ length all.sent) × EndsWell all
 ReadsOne all read came front (Err why) own left =
     Holds (take read all.sent) came front own × (length own.harts ≡ all.harts) × (own.window ≡ all.window)
-    × (own.by ≡ all.by) × IsLookFault all read why
+    × (own.by ≡ all.by) × IsLookFault all read why × IsLeftAt all read why left

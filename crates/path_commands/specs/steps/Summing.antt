@@ -1,5 +1,5 @@
 -- Adding up the rows of harts.
-use Rattle.std.specs.Prelude.{ℕ, ◌+◌, ◌-◌, ◌^◌, ◌&&◌, true, min}
+use Rattle.std.specs.Prelude.{ℕ, ◌+◌, ◌-◌, ◌^◌, ◌&&◌, true, min, None}
 use Rattle.auditing.specs.declared.row.HartRow.{HartRow}
 use Rattle.path_commands.specs.declared.total.Total.{Total}
 
@@ -13,6 +13,7 @@ none_added = record {
   late = 0;
   changed = 0;
   strange = 0;
+  too_late = None;
   whole = true;
 }
 
@@ -30,5 +31,6 @@ added total row = record {
   late = with_one total.late row.tally.late;
   changed = with_one total.changed row.tally.changed;
   strange = with_one total.strange row.strange;
+  too_late = total.too_late;
   whole = total.whole && row.tally.whole;
 }

@@ -1,13 +1,13 @@
 -- The workers that were started, by lemmas on lists, which no tactic finds.
 use Rattle.std.proofs.Common.{◌∙◌, ◌++◌, [], ◌∷◌, length, refl, sym, ap, subst, arith}
 use Rattle.std.proofs.lemmas.List.{map-append}
+use Rattle.std.proofs.lemmas.List.Elements.{All-push, All-same}
 use Rattle.std.proofs.lemmas.Option.{slice_get-get_or}
 use Rattle.encoder.specs.SourceAt.{SourceAt}
 use Rattle.funnel.specs.Ends.{AreNewPorts, PortView}
 use Rattle.bench.specs.declared.worker.LogPayloads.{LogPayloads}
 use Rattle.bench.specs.steps.Gathering.{IsWorkerOf, harts_of}
 use Rattle.bench.proofs.LastPort.{last_port}
-use Rattle.bench.proofs.ListElements.{All-pushed}
 use Rattle.bench.proofs.StartedLemmas.{begun_refused, begun_started, new_worker, none_begun}
 use Rattle.bench.proofs.starting.start_all.Goals as goal
 
@@ -60,8 +60,10 @@ loop-port-preserved-in-Some-start g c =
       few = omega (arith, few, count, place);
       room = omega (arith, room, count, place, grown, same);
       workers =
-          All-pushed (IsWorkerOf at c.args.outlet.now.funnel c.args.plan.now.config c.args.plan.now.logs.now)
-          c.loop-port.workers.items c.push_reserved.new.self.items worker pushed.items now.workers new;
+          All-same (IsWorkerOf at c.args.outlet.now.funnel c.args.plan.now.config c.args.plan.now.logs.now)
+          c.push_reserved.new.self.items _ pushed.items
+          (All-push (IsWorkerOf at c.args.outlet.now.funnel c.args.plan.now.config c.args.plan.now.logs.now)
+          c.loop-port.workers.items worker now.workers new);
       keep = now.keep;
       harts =
           begun_started c.args.plan.now.config c.args.plan.now.logs.now _ c.len-hart.result _

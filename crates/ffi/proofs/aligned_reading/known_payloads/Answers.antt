@@ -1,5 +1,5 @@
 -- The payload of one message more is kept: by lemmas on lists, which no tactic finds.
-use Rattle.std.proofs.Common.{◌∙◌, ◌+◌, ◌<◌, ◌++◌, ◌∷◌, [], ap, arith, length, subst, sym, take}
+use Rattle.std.proofs.Common.{◌∙◌, ◌<◌, ◌++◌, ◌∷◌, [], ap, arith, length, subst, sym, take}
 use Rattle.std.proofs.lemmas.List.{get_or_read, take_more}
 use Rattle.auditing.specs.PayloadSights.{KeepsPayloads}
 use Rattle.ffi.proofs.aligned_reading.known_payloads.Goals as goal

@@ -1,5 +1,5 @@
 -- One hart more is compared: by lemmas on texts, which no tactic finds.
-use Rattle.std.proofs.Common.{◌≡◌, ◌+◌, ◌++◌, ◌∷◌, ◌∙◌, [], slice_index_or, take, ap, refl, sym, subst, arith}
+use Rattle.std.proofs.Common.{◌≡◌, ◌+◌, ◌++◌, ◌∷◌, ◌∙◌, [], take, ap, refl, sym, subst, arith}
 use Rattle.std.proofs.lemmas.List.{take_all}
 use Rattle.comparing.specs.Compared.{got_by, gots_by}
 use Rattle.comparing.specs.Explained.{explained_hart, explained_harts}
@@ -8,28 +8,24 @@ use Rattle.legalpath.specs.ProgramLog.{program_log}
 use Rattle.receiver.specs.Received.{events_in}
 use Rattle.ffi.proofs.ComparedInTurn.{compared_more}
 use Rattle.ffi.proofs.HartsListed.{got_listed, gots_listed}
-use Rattle.ffi.proofs.TextsRead.{AreUpTo, read_none, read_refused, up_to_all, up_to_more}
-use Rattle.ffi.specs.Encoded.{IsLegalText}
+use Rattle.ffi.proofs.TextsRead.{text_refused, texts_all, texts_more}
 use Rattle.ffi.specs.declared.fault.Fault.TheVariants.{Memory}
 use Rattle.ffi.specs.steps.Comparing.{AreCompared}
+use Rattle.ffi.specs.steps.OfTexts.{AreTextsOf}
 use Rattle.ffi.proofs.comparing_logs.compare_each.Goals as goal
 
 pub loop-place-init : goal.loop-place-init
-loop-place-init c = record {
-  logs = [];
-  read = read_none c.args.program.now c.args.logs.now c.args.ends.now;
-  holds = c.new-said.ensures.items;
-}
+loop-place-init c = record { logs = []; are = tt; holds = c.new-said.ensures.items }
 
 pub returns-in-Err-clause-refused : goal.returns-in-Err-clause-refused
 returns-in-Err-clause-refused c =
-    read_refused c.args.program.now c.args.logs.now c.args.ends.now c.loop-place.place c.loop-place.from _ _ _
-    c.in-Err.fault c.loop-place-test.true refl c.loop-place.invariant c.text_between-text.ensures c.in-Err.ensures.fault
+    text_refused c.args.program.now c.args.logs.now c.args.ends.now c.loop-place.place _ c.in-Err.why.0 c.in-Err.why.1
+    c.loop-place-test.true c.in-Err.ensures.fault.0 c.loop-place.invariant c.in-Err.ensures.fault.1
 
 pub returns-in-Err-push-clause-refused : goal.returns-in-Err-push-clause-refused
 returns-in-Err-push-clause-refused c =
-    read_refused c.args.program.now c.args.logs.now c.args.ends.now c.loop-place.place c.loop-place.from _ _ _ Memory
-    c.loop-place-test.true refl c.loop-place.invariant c.text_between-text.ensures tt
+    text_refused c.args.program.now c.args.logs.now c.args.ends.now c.loop-place.place _ c.loop-place.place Memory
+    c.loop-place-test.true refl c.loop-place.invariant tt
 
 pub loop-place-preserved : goal.loop-place-preserved
 loop-place-preserved c =
@@ -39,7 +35,6 @@ loop-place-preserved c =
     let closed = c.args.outcome.now.closed.items in
     let counts = c.args.counts.now in
     let gots = gots_by (count_in counts) 0 (events_in lists) closed in
-    let end = slice_index_or c.args.ends.now place 0 in
     let within = c.loop-place-test.true in
     let many = c.requires.many in
     let flags = c.requires.flags in
@@ -50,21 +45,16 @@ loop-place-preserved c =
     let all = many ∙ sym (gots_listed counts lists closed flags) in
     let before = c.loop-place.said.items in
     let own = c.explained_of-one.result in
-    subst (λ said. AreUpTo program c.args.logs.now c.args.ends.now (place + 1) end
+    let log = program_log program c.in-Ok.events.items in
+    let one = c.explained_of-one.ensures program
+    ∙ ap (λ events. explained_hart place got (program_log program events)) c.as_slice-in-loop-place.ensures.value in
+    subst (λ said. AreTextsOf program c.args.logs.now (take (place + 1) c.args.ends.now)
     (λ logs. said ≡ explained_harts 0 (take (place + 1) gots) logs)) (sym c.in-Ok-push.ensures.items)
-    (up_to_more program c.args.logs.now c.args.ends.now place c.loop-place.from
+    (texts_more program c.args.logs.now c.args.ends.now place
     (λ logs. before ≡ explained_harts 0 (take place gots) logs)
-    (λ logs. before ++ own ∷ [] ≡ explained_harts 0 (take (place + 1) gots) logs) end
-    (λ log. own ≡ explained_hart place got log) within refl
-    (λ logs log. compared_more gots place before got own logs log (omega (arith, all, within)) there)
-    c.loop-place.invariant
-    (record {
-      log = program_log program c.in-Ok.events.items;
-      legal = subst (λ text. IsLegalText program text (program_log program c.in-Ok.events.items))
-          c.text_between-text.ensures c.in-Ok.ensures.log;
-      holds = c.explained_of-one.ensures program
-          ∙ ap (λ events. explained_hart place got (program_log program events)) c.as_slice-in-loop-place.ensures.value;
-    }))
+    (λ logs. before ++ own ∷ [] ≡ explained_harts 0 (take (place + 1) gots) logs) log within c.in-Ok.ensures.log
+    (λ logs many said. compared_more gots place before got own logs log (omega (arith, all, within)) there many said one)
+    c.loop-place.invariant)
 
 pub returns-clause-said : goal.returns-clause-said
 returns-clause-said c =
@@ -77,7 +67,7 @@ returns-clause-said c =
     let all = c.requires.many ∙ sym (gots_listed counts lists closed c.requires.flags) in
     let past = c.loop-place-test.false in
     let up_to = c.loop-place.auto.place-end in
-    up_to_all c.args.program.now c.args.logs.now c.args.ends.now place c.loop-place.from
+    texts_all c.args.program.now c.args.logs.now c.args.ends.now place
     (λ logs. said ≡ explained_harts 0 (take place gots) logs) (AreCompared gots said) (omega (arith, past, up_to))
     (λ logs many each. record {
       many = many ∙ all;

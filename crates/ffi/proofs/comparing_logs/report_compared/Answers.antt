@@ -18,4 +18,4 @@ returns-in-Ok c =
 pub returns-in-Err : goal.returns-in-Err
 returns-in-Err c =
     Refused c.in-Err.log c.in-Err.fault c.in-Err.is c.status.ensures
-    (ap (λ row. reported c.in-Err.log row) c.row_of.ensures) refl refl refl
+    (ap (λ row. reported c.in-Err.log row) c.row.ensures) refl refl refl

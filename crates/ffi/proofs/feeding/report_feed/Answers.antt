@@ -13,4 +13,4 @@ returns-in-Ok c =
     c.hand_out_events-status.ensures) c.go_on_if_done.ensures
 
 pub returns-in-Err : goal.returns-in-Err
-returns-in-Err c = Refused c.in-Err.fault c.in-Err.ensures c.feed_status.ensures refl refl refl
+returns-in-Err c = Refused c.in-Err.fault c.in-Err.ensures c.status.ensures refl refl refl

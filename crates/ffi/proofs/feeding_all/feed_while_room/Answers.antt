@@ -29,10 +29,10 @@ returns-in-Err-feed_next c =
     let step = c.in-Err-feed_next.ensures.fed c.args.image.now c.in-Ok.is before.are in
     let ended = stopped c.args.image.now c.args.payloads.now c.args.ends.now c.args.numbers.now c.args.events.now
     c.loop-place.numbers c.feed_next.new.numbers c.loop-place.kept c.feed_next.new.kept c.loop-place.place
-    c.loop-place.from c.loop-place.written c.loop-place.events _ c.feed_next.new.events _ _
+    c.loop-place.written c.loop-place.events _ c.feed_next.new.events _ _
     (part_lent c.loop-place.written c.loop-place.events)
     (part_back c.loop-place.written c.loop-place.events c.feed_next.new.events) c.loop-place-test.true
-    c.text_between-payload.ensures before c.in-Err-feed_next.status step in
+    c.text_at-payload.ensures before c.in-Err-feed_next.status step in
     Fed (c.in-Some.first, c.in-Some.ensures.found) c.in-Ok.program c.in-Ok.is ended.0 ended.1
 
 pub loop-place-preserved : goal.loop-place-preserved
@@ -46,10 +46,10 @@ loop-place-preserved c =
     let room = c.loop-place.invariant.1 in (
       fed_more c.args.image.now c.args.payloads.now c.args.ends.now c.args.numbers.now c.args.events.now
           c.loop-place.numbers c.feed_next.new.numbers c.loop-place.kept c.feed_next.new.kept c.loop-place.place
-          c.loop-place.from c.loop-place.written c.loop-place.events _ c.feed_next.new.events _ _
+          c.loop-place.written c.loop-place.events _ c.feed_next.new.events _ _
           (part_lent c.loop-place.written c.loop-place.events)
           (part_back c.loop-place.written c.loop-place.events c.feed_next.new.events) c.loop-place-test.true
-          c.text_between-payload.ensures before more
+          c.text_at-payload.ensures before more
           (c.in-Ok-feed_next.ensures.fed c.args.image.now c.in-Ok.is before.are),
       omega (arith, fits, lent, left, same, room),
     )
@@ -58,5 +58,5 @@ pub returns : goal.returns
 returns c =
     Fed (c.in-Some.first, c.in-Some.ensures.found) c.in-Ok.program c.in-Ok.is
     (fed_all c.args.image.now c.args.payloads.now c.args.ends.now c.args.numbers.now c.args.events.now
-    c.loop-place.numbers c.loop-place.kept c.loop-place.place c.loop-place.from c.loop-place.written c.loop-place.events
+    c.loop-place.numbers c.loop-place.kept c.loop-place.place c.loop-place.written c.loop-place.events
     (omega arith) c.loop-place.invariant.0) (AllTaken refl refl)

@@ -5,5 +5,5 @@ use Rattle.ffi.proofs.feeding_all.feed_while_room.Given as goal
 
 abbrev pub invariant-loop-place : goal.invariant-loop-place
 invariant-loop-place l =
-    AreFedTo l.image l.payloads l.ends l.fn.numbers l.numbers l.kept l.place l.from l.written l.fn.events l.events
+    AreFedTo l.image l.payloads l.ends l.fn.numbers l.numbers l.kept l.place l.written l.fn.events l.events
     × (l.written ≤ length l.fn.events)

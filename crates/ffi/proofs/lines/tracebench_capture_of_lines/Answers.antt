@@ -18,4 +18,4 @@ returns-in-Err c =
     Refused c.in-Err.why
     (subst (λ settings. IsOfLines settings c.args.text.now (Err c.in-Err.why)) c.settings_named-settings.ensures.value
     c.in-Err.ensures)
-    c.lines_status.ensures c.line_at_fault.ensures refl refl
+    c.status.ensures c.row.ensures refl refl

@@ -1,18 +1,22 @@
 -- One log more is measured: by lemmas on texts, which no tactic finds.
-use Rattle.std.proofs.Common.{◌+◌, ◌++◌, ◌∷◌, [], All, slice_index_or, refl, sym, subst, arith}
+use Rattle.std.proofs.Common.{◌+◌, ◌++◌, ◌∷◌, [], ◌∙◌, All, ap, refl, sym, subst, take, arith}
 use Rattle.std.proofs.lemmas.List.Elements.{All-nil}
 use Rattle.captures.specs.Bounds.{AreWithin, most_counted}
+use Rattle.captures.specs.Measures.{measures_of}
+use Rattle.legalpath.specs.Legal.{Legal}
+use Rattle.legalpath.specs.ProgramLog.{program_log}
+use Rattle.rvclass.specs.Fetch.{words_of}
 use Rattle.ffi.proofs.MeasuredInTurn.{measured_more}
-use Rattle.ffi.proofs.TextsRead.{AreUpTo, read_none, read_refused, up_to_all, up_to_more}
+use Rattle.ffi.proofs.TextsRead.{text_refused, texts_all, texts_more}
 use Rattle.ffi.specs.declared.fault.Fault.TheVariants.{Memory}
-use Rattle.ffi.specs.steps.Measuring.{AreMeasured, IsMeasured}
-use Rattle.ffi.specs.steps.OfTexts.{IsTextOf}
+use Rattle.ffi.specs.steps.Measuring.{AreMeasured}
+use Rattle.ffi.specs.steps.OfTexts.{AreTextsOf}
 use Rattle.ffi.proofs.measuring_logs.measure_each.Goals as goal
 
 pub loop-place-init : goal.loop-place-init
 loop-place-init c = record {
   logs = [];
-  read = read_none c.args.program.now c.args.logs.now c.args.ends.now;
+  are = tt;
   holds = record {
     counted = c.new-measures.ensures.items;
     within = subst (All (AreWithin most_counted)) (sym c.new-measures.ensures.items) (All-nil (AreWithin most_counted));
@@ -21,29 +25,32 @@ loop-place-init c = record {
 
 pub returns-in-Err-clause-refused : goal.returns-in-Err-clause-refused
 returns-in-Err-clause-refused c =
-    read_refused c.args.program.now c.args.logs.now c.args.ends.now c.loop-place.place c.loop-place.from _ _ _
-    c.in-Err.fault c.loop-place-test.true refl c.loop-place.invariant c.text_between-text.ensures c.in-Err.ensures.fault
+    text_refused c.args.program.now c.args.logs.now c.args.ends.now c.loop-place.place _ c.in-Err.why.0 c.in-Err.why.1
+    c.loop-place-test.true c.in-Err.ensures.fault.0 c.loop-place.invariant c.in-Err.ensures.fault.1
 
 pub returns-in-Err-push-clause-refused : goal.returns-in-Err-push-clause-refused
 returns-in-Err-push-clause-refused c =
-    read_refused c.args.program.now c.args.logs.now c.args.ends.now c.loop-place.place c.loop-place.from _ _ _ Memory
-    c.loop-place-test.true refl c.loop-place.invariant c.text_between-text.ensures tt
+    text_refused c.args.program.now c.args.logs.now c.args.ends.now c.loop-place.place _ c.loop-place.place Memory
+    c.loop-place-test.true refl c.loop-place.invariant tt
 
 pub loop-place-preserved : goal.loop-place-preserved
 loop-place-preserved c =
+    let program = c.args.program.now in
     let of = AreMeasured c.args.period c.args.mode in
-    let own = IsMeasured c.args.period c.args.mode c.in-Ok.own in
     let before = c.loop-place.measures.items in
-    let end = slice_index_or c.args.ends.now c.loop-place.place 0 in
-    subst (λ all. AreUpTo c.args.program.now c.args.logs.now c.args.ends.now (c.loop-place.place + 1) end (of all))
-    (sym c.in-Ok-push.ensures.items)
-    (up_to_more c.args.program.now c.args.logs.now c.args.ends.now c.loop-place.place c.loop-place.from (of before)
-    (of (before ++ c.in-Ok.own ∷ [])) end own c.loop-place-test.true refl
-    (λ logs log many. measured_more c.args.period c.args.mode before c.in-Ok.own logs log) c.loop-place.invariant
-    (subst (λ text. IsTextOf c.args.program.now text own) c.text_between-text.ensures c.in-Ok.ensures.measured))
+    let own = c.count_events.result in
+    let log = program_log program c.in-Ok.events.items in
+    let value = c.as_slice.ensures.value in
+    let counted = c.count_events.ensures.value (subst (Legal (words_of program)) (sym value) c.in-Ok.ensures.legal)
+    ∙ ap (λ events. measures_of c.args.period c.args.mode (program_log program events)) value in
+    subst (λ all. AreTextsOf program c.args.logs.now (take (c.loop-place.place + 1) c.args.ends.now) (of all)) (sym c.in-Ok-push.ensures.items)
+    (texts_more program c.args.logs.now c.args.ends.now c.loop-place.place (of before) (of (before ++ own ∷ [])) log
+    c.loop-place-test.true c.in-Ok.ensures.log
+    (λ logs many are. measured_more c.args.period c.args.mode before own logs log are counted
+    c.count_events.ensures.few) c.loop-place.invariant)
 
 pub returns-clause-measured : goal.returns-clause-measured
 returns-clause-measured c =
     let of = AreMeasured c.args.period c.args.mode c.loop-place.measures.items in
-    up_to_all c.args.program.now c.args.logs.now c.args.ends.now c.loop-place.place c.loop-place.from of of (omega arith)
+    texts_all c.args.program.now c.args.logs.now c.args.ends.now c.loop-place.place of of (omega arith)
     (λ logs many are. are) c.loop-place.invariant

@@ -1,5 +1,5 @@
 -- What was taken of both captures is what is reported: no tactic puts the audit together.
-use Rattle.std.proofs.Common.{◌≡◌, ◌∙◌, length, ap, subst, arith}
+use Rattle.std.proofs.Common.{◌≡◌, ◌∙◌, length, subst, arith}
 use Rattle.std.proofs.lemmas.Grind.{common_steps}
 use Rattle.auditing.specs.Findings.{first_found}
 use Rattle.auditing.specs.Judged.{strangers_in}

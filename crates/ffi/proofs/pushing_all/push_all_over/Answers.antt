@@ -11,12 +11,13 @@ pub returns-in-None : goal.returns-in-None
 returns-in-None c =
     none_reported c.args.image.now c.args.state.now c.args.events.now _ c.args.packets.now
     (BadState (λ some. let same = c.in-None.ensures.only some.0 some.1 in cc) refl refl) (λ small. cc)
+    (λ program makes are. let same = c.in-None.ensures.only are.0 are.1 in cc)
 
 pub returns-in-Err : goal.returns-in-Err
 returns-in-Err c =
     none_reported c.args.image.now c.args.state.now c.args.events.now _ c.args.packets.now
     (NoProgram (c.in-Some.before, c.in-Some.ensures.found) c.in-Err.fault c.in-Err.is refl c.status.ensures)
-    (λ small. grind (arith, common_steps))
+    (λ small. grind (arith, common_steps)) (λ program makes are. let no = sym c.in-Err.is ∙ makes in cc)
 
 pub returns : goal.returns
 returns c =

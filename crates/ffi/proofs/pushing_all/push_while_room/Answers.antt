@@ -16,32 +16,23 @@ returns-in-None-clause-ends c =
     (slice_get-get_or c.args.events.now c.loop-place.place _ c.loop-place-test.true)
     (λ some. let same = c.in-None.ensures.only some.0 some.1 in cc) refl
 
-pub returns-then-status-ne-DONE-clause-pushed : goal.returns-then-status-ne-DONE-clause-pushed
-returns-then-status-ne-DONE-clause-pushed c =
-    (no_room_at (words_of c.args.program.now) c.args.encoder.now c.args.events.now c.args.packets.now
-    c.loop-place.place _ c.in-Some.event c.loop-place.encoder c.push_next-status.new.encoder c.loop-place.written
-    c.push_next-status.new.count c.push_next-status.result c.loop-place.packets _ c.push_next-status.new.packets _
+pub returns-then-status-ne-DONE : goal.returns-then-status-ne-DONE
+returns-then-status-ne-DONE c =
+    let at = no_room_at (words_of c.args.program.now) c.args.encoder.now c.args.events.now c.args.packets.now
+    c.loop-place.place c.loop-place.encoder c.push_next-status.new.encoder c.loop-place.written
+    c.push_next-status.new.count c.loop-place.packets _ c.push_next-status.new.packets _
     (part_lent c.loop-place.written c.loop-place.packets)
-    (part_back c.loop-place.written c.loop-place.packets c.push_next-status.new.packets)
-    c.loop-place-test.true c.in-Some.ensures.found c.loop-place.invariant c.if-status-ne-DONE.true
-    c.push_next-status.ensures).0
-
-pub returns-then-status-ne-DONE-clause-ends : goal.returns-then-status-ne-DONE-clause-ends
-returns-then-status-ne-DONE-clause-ends c =
-    (no_room_at (words_of c.args.program.now) c.args.encoder.now c.args.events.now c.args.packets.now
-    c.loop-place.place _ c.in-Some.event c.loop-place.encoder c.push_next-status.new.encoder c.loop-place.written
-    c.push_next-status.new.count c.push_next-status.result c.loop-place.packets _ c.push_next-status.new.packets _
-    (part_lent c.loop-place.written c.loop-place.packets)
-    (part_back c.loop-place.written c.loop-place.packets c.push_next-status.new.packets)
-    c.loop-place-test.true c.in-Some.ensures.found c.loop-place.invariant c.if-status-ne-DONE.true
-    c.push_next-status.ensures).1
+    (part_back c.loop-place.written c.loop-place.packets c.push_next-status.new.packets) c.loop-place.invariant _
+    c.in-Some.event c.push_next-status.result c.loop-place-test.true c.in-Some.ensures.found c.if-status-ne-DONE.true
+    c.push_next-status.ensures in
+    record { pushed = at.0; ends = at.1 }
 
 pub loop-place-preserved : goal.loop-place-preserved
 loop-place-preserved c =
     pushed_more (words_of c.args.program.now) c.args.encoder.now c.args.events.now c.args.packets.now
-    c.loop-place.place _ c.in-Some.event c.loop-place.encoder c.push_next-status.new.encoder c.loop-place.written
-    c.push_next-status.new.count c.push_next-status.result c.loop-place.packets _ c.push_next-status.new.packets _
+    c.loop-place.place c.loop-place.encoder c.push_next-status.new.encoder c.loop-place.written
+    c.push_next-status.new.count c.loop-place.packets _ c.push_next-status.new.packets _
     (part_lent c.loop-place.written c.loop-place.packets)
-    (part_back c.loop-place.written c.loop-place.packets c.push_next-status.new.packets)
-    c.loop-place-test.true c.in-Some.ensures.found c.loop-place.invariant c.if-status-ne-DONE.false
+    (part_back c.loop-place.written c.loop-place.packets c.push_next-status.new.packets) c.loop-place.invariant _
+    c.in-Some.event c.push_next-status.result c.loop-place-test.true c.in-Some.ensures.found c.if-status-ne-DONE.false
     c.push_next-status.ensures

@@ -1,31 +1,29 @@
 -- SENT is read until nothing more is wanted: by lemmas on what is read, which no tactic finds.
-use Rattle.std.proofs.Common.{ℕ, ◌+◌, ◌≤◌, ◌∙◌, Ok, arith, drop, subst, sym, take}
+use Rattle.std.proofs.Common.{◌≡◌, ℕ, ◌+◌, ◌≤◌, ◌∙◌, Ok, arith, drop, refl, subst, sym, take}
+use Rattle.std.proofs.lemmas.List.{length-take}
 use Rattle.live.specs.Following.{AllWanted, Audited}
 use Rattle.live.specs.steps.Looking.{ReadsOne}
-use Rattle.live.proofs.Following.{looked_at, looked_end, wanted_more, wanted_place, whole_turn}
+use Rattle.live.proofs.Following.{asked_end, asked_next, asked_read, asked_some, looked_at, looked_end, wanted_more, wanted_place, whole_turn}
 use Rattle.live.proofs.looking.look.Goals as goal
 
 -- None was read yet.
 none_read : (all : Audited) (read front hart number : ℕ) → AllWanted all read read front hart number
 none_read all read front hart number k from below = absurd (omega (arith, from, below))
 
-one_later : (first read : ℕ) → first ≤ read → first ≤ read + 1
-one_later first read more = omega (arith, more)
-
-same_place : (read : ℕ) → read ≤ read
-same_place read = omega arith
-
 pub loop-init : goal.loop-init
 loop-init g c = λ all read came front right reads.
-    (read, reads, same_place read, none_read all read front c.args.hart c.args.number)
+    (read, reads, (let none : read ≡ read + 0 = omega arith in none), none_read all read front c.args.hart c.args.number, refl, λ some. absurd (omega (arith, some)))
 
 pub returns-then-not-wants : goal.returns-then-not-wants
 returns-then-not-wants g c = λ all read came front right reads.
     let under = c.loop.invariant all read came front right reads in
     let left = g.S.SentSource.left c.loop.source in
+    let some = take under.0 all.sent in
+    let later = under.2 in
     looked_at all right under.0 came front c.loop.window left under.1 read c.args.hart c.args.number
-    (c.wants.ensures.settled (take under.0 all.sent) came (drop under.0 all.sent) front under.1.holds
-    (whole_turn all right under.0 came front c.loop.window left under.1) c.if-not-wants.true) under.2 under.3
+    (c.wants.ensures.settled some came (drop under.0 all.sent) front under.1.holds
+    (whole_turn all right under.0 came front c.loop.window left under.1) c.if-not-wants.true) (omega (arith, later)) under.3
+    under.4 (sym (c.wants.ensures.wanted some came front under.1.holds) ∙ c.if-not-wants.true)
 
 pub returns-in-Ok-false : goal.returns-in-Ok-false
 returns-in-Ok-false g c = λ all read came front right reads.
@@ -38,8 +36,10 @@ returns-in-Ok-false g c = λ all read came front right reads.
     (g.S.SentSource.left c.read_one.new.source)) c.in-Ok-false.field-0-test
     (c.in-Ok-false.ensures all under.0 came front right under.1
     (wanted_place all right under.0 came front c.loop.window left under.1 c.args.hart c.args.number wanted)) in
+    let later = under.2 in
     looked_end all right under.0 came front c.loop.window left under.1 read c.args.hart
-    c.args.number (g.S.SentSource.left c.read_one.new.source) c.read_one.new.window one.0 one.1 under.2 under.3
+    c.args.number (g.S.SentSource.left c.read_one.new.source) c.read_one.new.window one.0 one.1 (omega (arith, later)) under.3
+    (under.4 ∙ asked_end all right under.0 came front c.loop.window left under.1 c.args.hart c.args.number wanted one.1) one.2
 
 pub returns-in-Err : goal.returns-in-Err
 returns-in-Err g c = λ all read came front right reads.
@@ -49,16 +49,26 @@ returns-in-Err g c = λ all read came front right reads.
     sym (c.wants.ensures.wanted (take under.0 all.sent) came front under.1.holds) ∙ c.if-not-wants.false in
     let one = c.in-Err.ensures all under.0 came front right under.1
     (wanted_place all right under.0 came front c.loop.window left under.1 c.args.hart c.args.number wanted) in
+    let later = under.2 in
+    let less = asked_some all right under.0 came front c.loop.window left under.1 c.args.hart c.args.number wanted in
+    let to = under.4 in
     record {
-      read = under.0;
+      fails = record {
+        asked = under.0;
+        more = omega (arith, later);
+        less = omega (arith, less, to);
+        read = under.0;
+        was = asked_read all under.0 under.1.within;
+        fault = one.4;
+        remains = one.5;
+      };
       holds = one.0;
-      within = under.1.within;
       harts = one.1;
       window = one.2;
       by = one.3;
-      more = under.2;
-      wanted = under.3;
-      fault = one.4;
+      more = omega (arith, later);
+      wanted =
+          wanted_more all right under.0 came front c.loop.window left under.1 read c.args.hart c.args.number under.3 wanted;
     }
 
 pub loop-preserved : goal.loop-preserved
@@ -66,27 +76,34 @@ loop-preserved g c = λ all read came front right reads.
     let under = c.loop.invariant all read came front right reads in
     let left = g.S.SentSource.left c.loop.source in
     let wanted =
-    sym (c.wants.ensures.wanted (take under.0 all.sent) came front under.1.holds) ∙ c.if-not-wants.false in (
+    sym (c.wants.ensures.wanted (take under.0 all.sent) came front under.1.holds) ∙ c.if-not-wants.false in
+    let next =
+    subst (λ b. ReadsOne all under.0 came front (Ok b) c.read_one.new.window
+    (g.S.SentSource.left c.read_one.new.source)) c.in-Ok-true.field-0-test
+    (c.in-Ok-true.ensures all under.0 came front right under.1
+    (wanted_place all right under.0 came front c.loop.window left under.1 c.args.hart c.args.number wanted)) in
+    let later = under.2 in
+    let few = c.wants.ensures.few in
+    let window = under.1.window in (
       under.0 + 1,
-      subst (λ b. ReadsOne all under.0 came front (Ok b) c.read_one.new.window
-          (g.S.SentSource.left c.read_one.new.source)) c.in-Ok-true.field-0-test
-          (c.in-Ok-true.ensures all under.0 came front right under.1
-          (wanted_place all right under.0 came front c.loop.window left under.1 c.args.hart c.args.number wanted)),
-      one_later read under.0 under.2,
+      next,
+      (let same : under.0 + 1 ≡ read + (c.loop.counter + 1) = omega (arith, later) in same),
       wanted_more all right under.0 came front c.loop.window left under.1 read c.args.hart c.args.number under.3 wanted,
+      under.4 ∙ asked_next all right under.0 came front c.loop.window left under.1 c.args.hart c.args.number wanted next.within,
+      λ some. (let small : all.window ≤ 16777216 = omega (arith, few, window) in small),
     )
 
+-- No message wants so many.
 pub returns : goal.returns
 returns g c = λ all read came front right reads.
     let under = c.loop.invariant all read came front right reads in
-    record {
-      read = under.0;
-      holds = under.1.holds;
-      within = under.1.within;
-      harts = under.1.harts;
-      window = under.1.window;
-      by = under.1.by;
-      more = under.2;
-      wanted = under.3;
-      fault = tt;
-    }
+    let over = c.loop-test.false in
+    let later = under.2 in
+    let few = under.5 (omega (arith, over)) in
+    let ahead = under.1.holds.ahead in
+    let window = under.1.window in
+    let taken = length-take under.0 all.sent in
+    let within = under.1.within in
+    let front_read = reads.holds.read in
+    let before = length-take read all.sent in
+    absurd (omega (arith, over, later, few, ahead, window, taken, within, front_read, before))

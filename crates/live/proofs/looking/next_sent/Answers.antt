@@ -2,7 +2,7 @@
 use Rattle.std.proofs.Common.{◌≡◌, ◌∙◌, ◌++◌, [], None, Ok, ap, arith, subst, sym, take}
 use Rattle.std.proofs.lemmas.List.{drop_all}
 use Rattle.auditing.specs.Sent.{misplaced}
-use Rattle.live.specs.Following.{IsNext, IsSourceFault, Left}
+use Rattle.live.specs.Following.{IsNext, IsSourceFault, Left, StaysLeft}
 use Rattle.live.proofs.Following.{at_end, left_known, next_sent, refused_next}
 use Rattle.live.proofs.Reading.{placed_if}
 use Rattle.live.proofs.looking.next_sent.Goals as goal
@@ -10,11 +10,14 @@ use Rattle.live.proofs.looking.next_sent.Goals as goal
 pub returns-in-Some : goal.returns-in-Some
 returns-in-Some g c = λ all read came front right reads.
     let left = g.S.SentSource.left c.args.source.now in
-    refused_next all right read came front c.args.window.now left reads c.in-Ok-Some.message
-    (g.S.SentSource.left c.next.new.self)
-    (subst (λ o. IsNext (Ok o) left (g.S.SentSource.left c.next.new.self)) c.in-Ok-Some.field-0-is c.in-Ok-Some.ensures
-    (left_known all right read came front c.args.window.now left reads))
-    c.in-Some.why (sym c.refusal.ensures ∙ c.in-Some.is)
+    let message = c.in-Ok-Some.message in
+    let gave =
+    subst (λ o. IsNext (Ok o) left (g.S.SentSource.left c.next.new.self)) c.in-Ok-Some.field-0-is c.in-Ok-Some.ensures
+    (left_known all right read came front c.args.window.now left reads) in (
+      refused_next all right read came front c.args.window.now left reads message (g.S.SentSource.left c.next.new.self) gave
+          c.in-Some.why (sym c.refusal.ensures ∙ c.in-Some.is),
+      (message, sym reads.remains ∙ gave),
+    )
 
 pub returns-in-None : goal.returns-in-None
 returns-in-None g c = λ all read came front right reads.
@@ -52,5 +55,7 @@ returns-in-Ok-None g c = λ all read came front right reads.
 pub returns-in-Err : goal.returns-in-Err
 returns-in-Err g c = λ all read came front right reads.
     let left = g.S.SentSource.left c.args.source.now in
-    subst (IsSourceFault c.in-Err.why) reads.remains
-    (c.in-Err.ensures (left_known all right read came front c.args.window.now left reads))
+    let fails = c.in-Err.ensures (left_known all right read came front c.args.window.now left reads) in (
+      subst (IsSourceFault c.in-Err.why) reads.remains fails.0,
+      subst (λ l. StaysLeft l (g.S.SentSource.left c.next.new.self)) reads.remains fails.1,
+    )

@@ -30,8 +30,9 @@ returns-in-Ok-None g c = λ all read came front right reads place.
     let next =
     subst (λ o. IsNextSent all read c.args.window.now (Ok o) (g.S.SentSource.left c.next_sent.new.source)) c.in-Ok-None.field-0-is
     (c.in-Ok-None.ensures all read came front right reads) in
-    (subst (λ l. Reads all read came front c.args.window.now l) (reads.remains ∙ sym next.1) reads, next.0)
+    (subst (λ l. Reads all read came front c.args.window.now l) (reads.remains ∙ sym next.1) reads, next.0, next.2)
 
 pub returns-in-Err : goal.returns-in-Err
 returns-in-Err g c = λ all read came front right reads place.
-    (reads.holds, reads.harts, reads.window, reads.by, c.in-Err.ensures all read came front right reads)
+    let fails = c.in-Err.ensures all read came front right reads in
+    (reads.holds, reads.harts, reads.window, reads.by, fails.0, fails.1)

@@ -1,5 +1,5 @@
 -- The rows are written one after the other: by lemmas on parts of a text, which no tactic finds.
-use Rattle.std.proofs.Common.{◌+◌, ◌^◌, ◌<◌, ◌≤◌, ◌∙◌, length, ap, refl, subst, sym, arith}
+use Rattle.std.proofs.Common.{◌+◌, ◌^◌, ◌<◌, ◌≤◌, ◌∙◌, length, ap, refl, subst, sym, arith, None}
 use Rattle.std.specs.Io.KnownBytes.{Appends}
 use Rattle.std.specs.List.{flat_map}
 use Rattle.output.specs.Begun.{AppendsBeginning}
@@ -28,7 +28,7 @@ loop-hart-init g c = λ own came audits few.
     c.past_among-past.ensures.past
     c.harts.ensures in (
       subst (λ harts. HasWritten whole (flat_map (λ hart. hart_row c.args.report.format hart
-          (row_of sent received hart)) harts)
+          (row_of sent received hart) None) harts)
           out out) (sym is) (part_none whole out),
       subst (λ total. IsTotal sent received total c.args.report.harts.first c.from-hart.result past)
           (sym c.new-total.ensures)
@@ -50,12 +50,12 @@ loop-hart-preserved g c = λ own came audits few.
     let is = c.row-row.ensures own came audits few in
     let mid = g.O.Write.contents c.loop-hart.out in
     let new = g.O.Write.contents c.write_text.new.out in
-    let line = subst (λ row. Appends mid new (hart_row c.args.report.format hart row)) is
+    let line = subst (λ row. Appends mid new (hart_row c.args.report.format hart row None)) is
     c.in_ok-write_text.ensures.whole in
     let rows : AreFew row =
     few_by row (omega arith) (omega arith) (omega arith) (omega arith) (omega arith) (omega arith) (omega arith) in
     let has = c.loop-hart.invariant own came audits few in (
-      hart_more (λ hart. hart_row c.args.report.format hart (row_of sent received hart))
+      hart_more (λ hart. hart_row c.args.report.format hart (row_of sent received hart) None)
           (hart_rows c.args.report.format sent received
           (harts_among c.args.report.harts count)) past
           (g.O.Write.contents c.args.out.now) mid hart new within has.0 line,
@@ -76,10 +76,10 @@ returns-in_err-write_text-clause-begun g c = λ own came audits few.
     let is = c.row-row.ensures own came audits few in
     let mid = g.O.Write.contents c.loop-hart.out in
     let new = g.O.Write.contents c.write_text.new.out in
-    let line = subst (λ row. AppendsBeginning (hart_row c.args.report.format hart row) mid new) is
+    let line = subst (λ row. AppendsBeginning (hart_row c.args.report.format hart row None) mid new) is
     c.write_text.ensures.begun in
     let has = c.loop-hart.invariant own came audits few in
-    hart_begun (λ hart. hart_row c.args.report.format hart (row_of sent received hart))
+    hart_begun (λ hart. hart_row c.args.report.format hart (row_of sent received hart) None)
     (hart_rows c.args.report.format sent received
     (harts_among c.args.report.harts count)) past
     (g.O.Write.contents c.args.out.now) mid hart new within has.0 line
@@ -92,7 +92,7 @@ returns-clause-text g c = λ own came audits few.
     let past = c.past_among-past.result in
     let over : past ≤ c.loop-hart.hart = omega arith in
     let has = c.loop-hart.invariant own came audits few in
-    harts_all (λ hart. hart_row c.args.report.format hart (row_of sent received hart))
+    harts_all (λ hart. hart_row c.args.report.format hart (row_of sent received hart) None)
     (hart_rows c.args.report.format sent received
     (harts_among c.args.report.harts count)) past
     (g.O.Write.contents c.args.out.now) (g.O.Write.contents c.loop-hart.out) c.loop-hart.hart over has.0

@@ -1,5 +1,5 @@
 -- The rows of the harts so far are written, and what their rows count is summed up.
-use Rattle.std.proofs.Common.{◌<◌, ◌^◌, List, length, ◌-◌}
+use Rattle.std.proofs.Common.{◌<◌, ◌^◌, List, length, ◌-◌, None}
 use Rattle.std.specs.List.{flat_map, range_with_len}
 use Rattle.message.specs.declared.message.Message.{Message}
 use Rattle.auditing.specs.Known.{known_all}
@@ -18,7 +18,7 @@ invariant-loop-hart g l =
     (harts_among l.fn.report.harts
     (length l.path.harts)))
     (flat_map (λ hart. hart_row l.fn.report.format hart (row_of (known_all l.path.by own) (known_all l.path.by came)
-    hart))
+    hart) None)
     (range_with_len l.hart (l.past - l.hart)))
     (g.O.Write.contents l.fn.out) (g.O.Write.contents l.out)
     × IsTotal (known_all l.path.by own) (known_all l.path.by came) l.total l.fn.report.harts.first l.hart l.past

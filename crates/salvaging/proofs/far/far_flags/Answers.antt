@@ -9,6 +9,12 @@ use Rattle.salvaging.proofs.CountsFit.{few_counts}
 use Rattle.salvaging.proofs.FarByBound.{far_by_bound}
 use Rattle.salvaging.proofs.far.far_flags.Goals as goal
 
+pub nearest-first-requires : goal.nearest-first-requires
+nearest-first-requires g c = record {
+  rising = c.requires.rising;
+  counted = c.as_slice-counts.ensures.value ∙ c.in_ok-all.ensures.counts;
+}
+
 pub bound_from-bound-requires-clause-few : goal.bound_from-bound-requires-clause-few
 bound_from-bound-requires-clause-few g c =
     let small : length c.args.came.now < 2 ^ 63 = search rules in

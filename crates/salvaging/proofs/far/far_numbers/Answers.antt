@@ -9,6 +9,7 @@ use Rattle.salvaging.specs.steps.Arrivals.{AreOrdered, arrivals_in, placed_from}
 use Rattle.salvaging.specs.steps.Grouping.{entries_by}
 use Rattle.salvaging.proofs.FarLaws.{placed_in_order}
 use Rattle.salvaging.proofs.GroupedMessages.{entries_of_messages}
+use Rattle.salvaging.proofs.HartSalvaged.{far_count}
 use Rattle.salvaging.proofs.far.far_numbers.Goals.{After-as_slice-ordered}
 use Rattle.salvaging.proofs.far.far_numbers.Goals as goal
 
@@ -43,6 +44,11 @@ far_flags-requires-clause-placed g c =
     let at = goal.at.far_flags-requires-clause-placed g c in
     placed_in_order c.args.messages.now c.as_slice-ordered.result.now (moved g at.After-as_slice-ordered)
     (ordered g at.After-as_slice-ordered)
+
+pub flagged_numbers-requires : goal.flagged_numbers-requires
+flagged_numbers-requires g c =
+    ap length c.as_slice.ensures.value
+    ∙ far_count (entries_by (arrivals_in c.as_slice-ordered.result.now)) c.in_ok-far.far.items c.in_ok-far.ensures
 
 pub returns : goal.returns
 returns g c =

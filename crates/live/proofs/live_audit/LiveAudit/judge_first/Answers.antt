@@ -8,13 +8,13 @@ use Rattle.live.proofs.Settling.{first_waits}
 use Rattle.live.proofs.live_audit.LiveAudit.judge_first.Goals as goal
 
 pub returns-in-Ok-true : goal.returns-in-Ok-true
-returns-in-Ok-true g c = λ all read state right stands within.
+returns-in-Ok-true g c = λ all read asked state right stands was within.
     let left = g.S.SentSource.left c.judge.new.source in
     let one = c.args.one in
     let Told : List Line → Type 0 = λ told. g.L.LiveLines.Told c.args.lines.now told c.judge.new.lines in
     let judged =
-    subst (λ b. IsJudged all Told state one (Ok b) c.judge.new.self left) c.in-Ok-true.field-0-test
-    (c.in-Ok-true.ensures all read state right stands) in
+    subst (λ b. IsJudged all Told asked state one (Ok b) c.judge.new.self left) c.in-Ok-true.field-0-test
+    (c.in-Ok-true.ensures all read asked state right stands was) in
     let own : LiveHolding =
     record { window = c.self.inside.window; waiting = c.self.inside.waiting.items; runs = c.self.inside.runs.items } in
     let goes : GoesTo all judged.1.0 Told (stays state) own left =
@@ -22,13 +22,14 @@ returns-in-Ok-true g c = λ all read state right stands within.
       judged.1.0,
       subst (λ w. GoesTo all judged.1.0 Told (look_up waits all.window all.sent state one) (record own { waiting = w }) left)
           (sym c.wait.ensures) (first_waits all judged.1.0 Told state one own left judged.0 goes within),
+      judged.1.2,
     )
 
 pub returns-in-Ok-false : goal.returns-in-Ok-false
-returns-in-Ok-false g c = λ all read state right stands within.
+returns-in-Ok-false g c = λ all read asked state right stands was within.
     let left = g.S.SentSource.left c.judge.new.source in
-    subst (λ b. IsJudged all (λ told. g.L.LiveLines.Told c.args.lines.now told c.judge.new.lines) state c.args.one (Ok b)
-    c.judge.new.self left) c.in-Ok-false.field-0-test (c.in-Ok-false.ensures all read state right stands) waits
+    subst (λ b. IsJudged all (λ told. g.L.LiveLines.Told c.args.lines.now told c.judge.new.lines) asked state c.args.one (Ok b)
+    c.judge.new.self left) c.in-Ok-false.field-0-test (c.in-Ok-false.ensures all read asked state right stands was) waits
 
 pub returns-in-Err : goal.returns-in-Err
-returns-in-Err g c = λ all read state right stands within. c.in-Err.ensures all read state right stands waits
+returns-in-Err g c = λ all read asked state right stands was within. c.in-Err.ensures all read asked state right stands was waits

@@ -10,7 +10,7 @@ use Rattle.live.proofs.Steps.{goes_as, goes_then}
 use Rattle.live.proofs.live_audit.LiveAudit.judge_looked.Goals as goal
 
 pub returns-in-TooLate : goal.returns-in-TooLate
-returns-in-TooLate g c = λ all read state left right stood settled beyond.
+returns-in-TooLate g c = λ all read asked state left right stood settled was beyond.
     let some = take read all.sent in
     let own : LiveHolding = record {
       window = c.self.inside.window;
@@ -23,10 +23,11 @@ returns-in-TooLate g c = λ all read state left right stood settled beyond.
           (c.judge.ensures.taken some state.came state.front stands.reads.holds) c.judge.ensures.window
           c.judge.ensures.harts c.judge.ensures.by (c.in-TooLate.ensures.judged some state.came state.front stands.reads.holds)
           (λ told. g.L.LiveLines.Told c.args.lines.now told c.too_late.new.self) c.too_late.ensures beyond,
+      was,
     )
 
 pub returns-in-Undecided : goal.returns-in-Undecided
-returns-in-Undecided g c = λ all read state left right stood settled.
+returns-in-Undecided g c = λ all read asked state left right stood settled was.
     let some = take read all.sent in
     let own : LiveHolding = record {
       window = c.self.inside.window;
@@ -38,10 +39,10 @@ returns-in-Undecided g c = λ all read state left right stood settled.
     judged_undecided all right read state own left stands c.args.one.now settled c.judge.new.self
     (c.judge.ensures.taken some state.came state.front stands.reads.holds) c.judge.ensures.window c.judge.ensures.harts c.judge.ensures.by
     (c.in-Undecided.ensures.judged some state.came state.front stands.reads.holds) in
-    (same.0, (read, record { stands = same.1; told = g.met.L.LiveLines.nothing c.args.lines.now }))
+    (same.0, (read, record { stands = same.1; told = g.met.L.LiveLines.nothing c.args.lines.now }, was))
 
 pub returns-in-Found : goal.returns-in-Found
-returns-in-Found g c = λ all read state left right stood settled beyond.
+returns-in-Found g c = λ all read asked state left right stood settled was beyond.
     let some = take read all.sent in
     let one = c.args.one.now in
     let own : LiveHolding = record {
@@ -71,4 +72,5 @@ returns-in-Found g c = λ all read state left right stood settled beyond.
           (λ next. passes_all all.window all.sent next (take c.in-Found.ahead (drop next.front all.sent))) read
           c.pass_all.new.self left told
           (c.pass_all.ensures all read first.state left right found.0 found.1)),
+      was,
     )

@@ -1,6 +1,7 @@
 -- One message more is read: by lemmas on steps, which no tactic finds.
 use Rattle.std.proofs.Common.{◌+◌, ◌∙◌, inl, List, Ok, subst, sym, take}
-use Rattle.live.specs.Auditing.{LiveHolding, Stands, moves_near}
+use Rattle.live.specs.Auditing.{LiveHolding, Stands}
+use Rattle.live.specs.Course.{moves_near}
 use Rattle.live.specs.Lines.{Line}
 use Rattle.live.specs.steps.Advancing.{MakesPlace}
 use Rattle.live.specs.steps.Looking.{IsNextSent}
@@ -57,4 +58,5 @@ returns-in-Err g c = λ all read state right stood.
     let own : LiveHolding =
     record { window = c.self.inside.window; waiting = c.self.inside.waiting.items; runs = c.self.inside.runs.items } in
     let stands : Stands all read state own left = subst (λ o. Stands all read state o left) (sym c.self.view_is) stood in
-    (c.in-Err.ensures all read state.came state.front right stands.reads, g.met.L.LiveLines.nothing c.args.lines.now)
+    let fails = c.in-Err.ensures all read state.came state.front right stands.reads in
+    (fails.0, fails.1, g.met.L.LiveLines.nothing c.args.lines.now)

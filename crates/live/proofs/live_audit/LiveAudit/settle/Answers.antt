@@ -1,13 +1,14 @@
 -- What waits is taken: by lemmas on steps, which no tactic finds.
 use Rattle.std.proofs.Common.{◌≡◌, ◌∙◌, None, Some, ap, subst, sym}
 use Rattle.live.specs.Auditing.{Goes, LiveHolding, Stands, Went}
-use Rattle.live.specs.Live.{settled, settles}
+use Rattle.live.specs.Course.{settling}
+use Rattle.live.specs.Live.{settles}
 use Rattle.live.specs.declared.arrived.Arrived.{Arrived}
 use Rattle.live.proofs.Settling.{settles_none, stands_settles}
 use Rattle.live.proofs.live_audit.LiveAudit.settle.Goals as goal
 
 pub returns-in-None : goal.returns-in-None
-returns-in-None g c = λ all read state place right stood.
+returns-in-None g c = λ all read asked state place right stood was.
     let hart = c.args.message.now.hart in
     let left = g.S.SentSource.left c.args.source.now in
     let one : Arrived = record { place = place; message = c.args.message.now } in
@@ -23,7 +24,7 @@ returns-in-None g c = λ all read state place right stood.
     subst (λ w. Stands all read (settles state hart) (record own { waiting = w }) left)
     (sym c.take_waiting.ensures.rest) (stands_settles all read state own left stands hart) in
     subst (λ w. Goes all (λ told. g.L.LiveLines.Told c.args.lines.now told c.args.lines.now)
-    (settled all.window all.sent state one w) (record own { waiting = c.take_waiting.new.waiting.items }) left)
+    (settling all state one w asked) (record own { waiting = c.take_waiting.new.waiting.items }) left)
     (sym none) (
       read,
       record {
@@ -32,10 +33,11 @@ returns-in-None g c = λ all read state place right stood.
             (settles_none state hart none) emptied;
         told = g.met.L.LiveLines.nothing c.args.lines.now;
       },
+      was,
     )
 
 pub returns-in-Some : goal.returns-in-Some
-returns-in-Some g c = λ all read state place right stood.
+returns-in-Some g c = λ all read asked state place right stood was.
     let hart = c.args.message.now.hart in
     let left = g.S.SentSource.left c.args.source.now in
     let one : Arrived = record { place = place; message = c.args.message.now } in
@@ -50,7 +52,7 @@ returns-in-Some g c = λ all read state place right stood.
     let emptied =
     subst (λ w. Stands all read (settles state hart) (record own { waiting = w }) left)
     (sym c.take_waiting.ensures.rest) (stands_settles all read state own left stands hart) in
-    subst (λ w. Went all (λ told. g.L.LiveLines.Told c.args.lines.now told c.settle_first.new.lines)
-    (settled all.window all.sent state one w) c.settle_first.result c.settle_first.new.self
+    subst (λ w. Went all (λ told. g.L.LiveLines.Told c.args.lines.now told c.settle_first.new.lines) asked
+    (settling all state one w asked) c.settle_first.result c.settle_first.new.self
     (g.S.SentSource.left c.settle_first.new.source)) (sym some)
-    (c.settle_first.ensures all read (settles state hart) right emptied)
+    (c.settle_first.ensures all read asked (settles state hart) right emptied was)

@@ -1,29 +1,47 @@
 -- A run, byte by byte: by lemmas on runs, which no tactic finds.
-use Rattle.std.proofs.Common.{◌∙◌, ◌≤◌, ◌+◌, ◌%◌, ◌^◌, true, Ok, ap, drop, length, subst, sym}
+use Rattle.std.proofs.Common.{◌∙◌, ◌≤◌, ◌+◌, ◌%◌, ◌^◌, ◌≡◌, true, Ok, ap, arith, drop, length, refl, subst, sym}
 use Rattle.live.specs.Received.{bytes_to_next, is_taken}
-use Rattle.live.specs.ReceivedLeft.{IsLeft, ReceivedHeld, rule_of}
+use Rattle.live.specs.ReceivedLeft.{Follows, IsLeft, ReceivedHeld, most_sought, rule_of}
 use Rattle.live.specs.steps.Receiving.{IsDecided, IsSure}
 use Rattle.live.proofs.ReceivedBuffer.{left_none, left_some}
-use Rattle.live.proofs.ReceivedNext.{held_none, held_some, stepped}
-use Rattle.live.proofs.ReceivedRuns.{RunGoes, run_ended, run_goes, run_over}
-use Rattle.live.proofs.ReceivedSteps.{passed_lacks}
+use Rattle.live.proofs.ReceivedNext.{fails_there, follows_next, follows_there, held_none, held_some, stepped}
+use Rattle.live.proofs.ReceivedRuns.{RunGoes, run_ended, run_goes, run_over, run_start}
+use Rattle.live.proofs.ReceivedSteps.{follows_none}
 use Rattle.live.proofs.received.Received.pass_run.Goals as goal
+
+pub loop-init : goal.loop-init
+loop-init g c = (
+  refl,
+  c.requires,
+  λ all came front first rest right reads left fits. (
+    follows_none all came front first rest (0 + most_sought c.args.self.now.harts) c.args.window.now
+        (g.S.SentSource.left c.args.source.now) reads,
+    left,
+    run_start (rule_of c.args.self.now.harts all front) rest,
+    (let same : c.args.self.now.offset ≡ c.args.self.now.offset + 0 = omega arith in same),
+    omega arith,
+  ),
+  refl,
+)
 
 pub returns-in-Ok-true : goal.returns-in-Ok-true
 returns-in-Ok-true g c = record {
-  decided = λ all came front rest right follows left fits.
+  decided = λ all came front first rest right reads left fits.
       let own = c.args.self.now in
       let mid = c.is_taken.new.self in
       let file = g.R.FileReader.left c.is_taken.new.reader in
       let count = c.loop.count in
-      let now = c.loop.invariant.2 all came front rest right follows left fits in
+      let now = c.loop.invariant.2 all came front first rest right reads left fits in
       let step = stepped own c.loop.self c.pass.new.self (g.R.FileReader.left c.loop.reader) rest count now.1 now.3 fits
       c.loop.invariant.1 c.pass.ensures.bytes c.pass.ensures.ended c.pass.ensures.offset in
+      let wide =
+      follows_next all came front first rest count own.harts c.loop.window (g.S.SentSource.left c.loop.source) now.0 in
       let decided =
       subst
-      (λ b. IsDecided all came front (is_taken (rule_of c.pass.new.self.harts all front) true) (drop (count + 1) rest) (Ok b) mid
-      file c.is_taken.new.window (g.S.SentSource.left c.is_taken.new.source)) c.in-Ok-true.field-0-test
-      (c.in-Ok-true.ensures.decided all came front (drop (count + 1) rest) right now.0 step.left) in
+      (λ b. IsDecided all came front wide.read (is_taken (rule_of c.pass.new.self.harts all front) true) (drop (count + 1) rest)
+      (most_sought c.pass.new.self.harts) (Ok b) mid file c.is_taken.new.window (g.S.SentSource.left c.is_taken.new.source))
+      c.in-Ok-true.field-0-test
+      (c.in-Ok-true.ensures.decided all came front wide.read (drop (count + 1) rest) right wide.reads step.left) in
       let found =
       sym (decided.0 ∙ ap (λ r. is_taken (rule_of r all front) true (drop (count + 1) rest)) c.pass.ensures.harts) in
       let run = run_ended (rule_of c.loop.self.harts all front) rest count now.2 found in
@@ -32,27 +50,35 @@ returns-in-Ok-true g c = record {
         subst (λ n. IsLeft mid file (drop n rest)) counted decided.1,
         c.is_taken.ensures.offset ∙ step.offset ∙ ap (λ n. own.offset + n) counted,
         c.is_taken.ensures.harts ∙ c.pass.ensures.harts ∙ c.loop.invariant.0,
-        decided.2,
+        subst (λ n. Follows all came front first rest (n + most_sought own.harts) c.is_taken.new.window
+            (g.S.SentSource.left c.is_taken.new.source)) counted
+            (follows_there all came front first rest count own.harts c.loop.window (g.S.SentSource.left c.loop.source) wide
+            c.pass.new.self.harts (c.pass.ensures.harts ∙ c.loop.invariant.0) c.is_taken.new.window
+            (g.S.SentSource.left c.is_taken.new.source) decided.2),
       );
+  harts = c.is_taken.ensures.harts ∙ c.pass.ensures.harts ∙ c.loop.invariant.0;
+  most = c.is_taken.ensures.most ∙ c.pass.ensures.most ∙ c.loop.invariant.3;
+  few = c.in-Ok-true.ensures.few;
 }
 
 pub returns-then-self : goal.returns-then-self
 returns-then-self g c = record {
-  decided = λ all came front rest right follows left fits.
+  decided = λ all came front first rest right reads left fits.
       let own = c.args.self.now in
       let mid = c.is_taken.new.self in
       let file = g.R.FileReader.left c.is_taken.new.reader in
       let count = c.loop.count in
-      let now = c.loop.invariant.2 all came front rest right follows left fits in
+      let now = c.loop.invariant.2 all came front first rest right reads left fits in
       let step = stepped own c.loop.self c.pass.new.self (g.R.FileReader.left c.loop.reader) rest count now.1 now.3 fits
       c.loop.invariant.1 c.pass.ensures.bytes c.pass.ensures.ended c.pass.ensures.offset in
+      let wide =
+      follows_next all came front first rest count own.harts c.loop.window (g.S.SentSource.left c.loop.source) now.0 in
       let decided =
       subst
-      (λ b. IsDecided all came front (is_taken (rule_of c.pass.new.self.harts all front) true) (drop (count + 1) rest) (Ok b) mid
-      file c.is_taken.new.window (g.S.SentSource.left c.is_taken.new.source)) c.in-Ok-false.field-0-test
-      (c.in-Ok-false.ensures.decided all came front (drop (count + 1) rest) right now.0 step.left) in
-      let found =
-      sym (decided.0 ∙ ap (λ r. is_taken (rule_of r all front) true (drop (count + 1) rest)) c.pass.ensures.harts) in
+      (λ b. IsDecided all came front wide.read (is_taken (rule_of c.pass.new.self.harts all front) true) (drop (count + 1) rest)
+      (most_sought c.pass.new.self.harts) (Ok b) mid file c.is_taken.new.window (g.S.SentSource.left c.is_taken.new.source))
+      c.in-Ok-false.field-0-test
+      (c.in-Ok-false.ensures.decided all came front wide.read (drop (count + 1) rest) right wide.reads step.left) in
       let bytes = c.self.inside.buffer.items in
       let none =
       ap (λ (o : ReceivedHeld). length o.bytes) (sym c.self.view_is)
@@ -65,22 +91,39 @@ returns-then-self g c = record {
         subst (λ n. IsLeft mid file (drop n rest)) counted decided.1,
         c.is_taken.ensures.offset ∙ step.offset ∙ ap (λ n. own.offset + n) counted,
         c.is_taken.ensures.harts ∙ c.pass.ensures.harts ∙ c.loop.invariant.0,
-        decided.2,
+        subst (λ n. Follows all came front first rest (n + most_sought own.harts) c.is_taken.new.window
+            (g.S.SentSource.left c.is_taken.new.source)) counted
+            (follows_there all came front first rest count own.harts c.loop.window (g.S.SentSource.left c.loop.source) wide
+            c.pass.new.self.harts (c.pass.ensures.harts ∙ c.loop.invariant.0) c.is_taken.new.window
+            (g.S.SentSource.left c.is_taken.new.source) decided.2),
       );
+  harts = c.is_taken.ensures.harts ∙ c.pass.ensures.harts ∙ c.loop.invariant.0;
+  most = c.is_taken.ensures.most ∙ c.pass.ensures.most ∙ c.loop.invariant.3;
+  few = c.in-Ok-false.ensures.few;
 }
 
 pub returns-in-Err : goal.returns-in-Err
 returns-in-Err g c = record {
-  decided = λ all came front rest right follows left fits.
+  decided = λ all came front first rest right reads left fits.
       let own = c.args.self.now in
       let count = c.loop.count in
-      let now = c.loop.invariant.2 all came front rest right follows left fits in
+      let now = c.loop.invariant.2 all came front first rest right reads left fits in
       let step = stepped own c.loop.self c.pass.new.self (g.R.FileReader.left c.loop.reader) rest count now.1 now.3 fits
       c.loop.invariant.1 c.pass.ensures.bytes c.pass.ensures.ended c.pass.ensures.offset in
-      passed_lacks all came front (bytes_to_next (rule_of own.harts all front) (drop 1 rest) + 1)
-      (is_taken (rule_of c.pass.new.self.harts all front) true) own (drop (count + 1) rest) rest c.in-Err.why c.is_taken.new.self
-      (g.R.FileReader.left c.is_taken.new.reader) c.is_taken.new.window (g.S.SentSource.left c.is_taken.new.source)
-      (c.in-Err.ensures.decided all came front (drop (count + 1) rest) right now.0 step.left);
+      let wide =
+      follows_next all came front first rest count own.harts c.loop.window (g.S.SentSource.left c.loop.source) now.0 in
+      let run = now.2 in
+      let total = ap (λ r. bytes_to_next (rule_of r all front) (drop 1 rest) + 1) c.loop.invariant.0 in
+      fails_there all came front first rest count own.harts c.loop.window (g.S.SentSource.left c.loop.source) wide
+      c.pass.new.self.harts (c.pass.ensures.harts ∙ c.loop.invariant.0) own c.is_taken.new.self
+      (bytes_to_next (rule_of own.harts all front) (drop 1 rest) + 1)
+      (is_taken (rule_of c.pass.new.self.harts all front) true) c.in-Err.why (g.R.FileReader.left c.is_taken.new.reader)
+      c.is_taken.new.window (g.S.SentSource.left c.is_taken.new.source) refl (omega (arith, run, total))
+      (c.is_taken.ensures.offset ∙ step.offset) (c.is_taken.ensures.harts ∙ c.pass.ensures.harts ∙ c.loop.invariant.0)
+      (c.in-Err.ensures.decided all came front wide.read (drop (count + 1) rest) right wide.reads step.left);
+  harts = c.is_taken.ensures.harts ∙ c.pass.ensures.harts ∙ c.loop.invariant.0;
+  most = c.is_taken.ensures.most ∙ c.pass.ensures.most ∙ c.loop.invariant.3;
+  few = tt;
 }
 
 pub loop-preserved : goal.loop-preserved
@@ -91,30 +134,38 @@ loop-preserved g c =
     (held_some bytes c.self.inside.start c.self.inside.end c.self.invariant.0 c.self.invariant.1 c.if-self.false) in (
       c.is_taken.ensures.harts ∙ c.pass.ensures.harts ∙ c.loop.invariant.0,
       some,
-      λ all came front rest right follows left fits.
+      λ all came front first rest right reads left fits.
           let own = c.args.self.now in
           let mid = c.is_taken.new.self in
           let file = g.R.FileReader.left c.is_taken.new.reader in
           let count = c.loop.count in
-          let now = c.loop.invariant.2 all came front rest right follows left fits in
+          let now = c.loop.invariant.2 all came front first rest right reads left fits in
           let step = stepped own c.loop.self c.pass.new.self (g.R.FileReader.left c.loop.reader) rest count now.1 now.3 fits
           c.loop.invariant.1 c.pass.ensures.bytes c.pass.ensures.ended c.pass.ensures.offset in
+          let wide =
+          follows_next all came front first rest count own.harts c.loop.window (g.S.SentSource.left c.loop.source) now.0 in
           let decided =
           subst
-          (λ b. IsDecided all came front (is_taken (rule_of c.pass.new.self.harts all front) true) (drop (count + 1) rest) (Ok b) mid
-          file c.is_taken.new.window (g.S.SentSource.left c.is_taken.new.source)) c.in-Ok-false.field-0-test
-          (c.in-Ok-false.ensures.decided all came front (drop (count + 1) rest) right now.0 step.left) in
+          (λ b. IsDecided all came front wide.read (is_taken (rule_of c.pass.new.self.harts all front) true)
+          (drop (count + 1) rest) (most_sought c.pass.new.self.harts) (Ok b) mid file c.is_taken.new.window
+          (g.S.SentSource.left c.is_taken.new.source)) c.in-Ok-false.field-0-test
+          (c.in-Ok-false.ensures.decided all came front wide.read (drop (count + 1) rest) right wide.reads step.left) in
           let found =
           sym (decided.0 ∙ ap (λ r. is_taken (rule_of r all front) true (drop (count + 1) rest)) c.pass.ensures.harts) in
           let rule = rule_of c.loop.self.harts all front in
           let more = left_some mid file (drop (count + 1) rest) decided.1 some in
           let goes = run_goes rule rest count now.2 found more in
           let same = sym (c.is_taken.ensures.harts ∙ c.pass.ensures.harts) in (
-            decided.2,
+            subst (λ n. Follows all came front first rest (n + most_sought own.harts) c.is_taken.new.window
+                (g.S.SentSource.left c.is_taken.new.source)) (sym step.wraps)
+                (follows_there all came front first rest count own.harts c.loop.window (g.S.SentSource.left c.loop.source) wide
+                c.pass.new.self.harts (c.pass.ensures.harts ∙ c.loop.invariant.0) c.is_taken.new.window
+                (g.S.SentSource.left c.is_taken.new.source) decided.2),
             subst (λ n. IsLeft mid file (drop n rest)) (sym step.wraps) decided.1,
             subst (λ r. RunGoes (rule_of r all front) rest ((count + 1) % 2 ^ 64)) same
                 (subst (λ n. RunGoes rule rest n) (sym step.wraps) goes),
             c.is_taken.ensures.offset ∙ step.offset ∙ ap (λ n. own.offset + n) (sym step.wraps),
             subst (λ n. n ≤ length rest) (sym step.wraps) step.within,
           ),
+      c.is_taken.ensures.most ∙ c.pass.ensures.most ∙ c.loop.invariant.3,
     )

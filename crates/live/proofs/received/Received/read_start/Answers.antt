@@ -13,4 +13,5 @@ loop-preserved g c = (
   c.read.ensures.harts ∙ c.loop.invariant.0,
   c.read.ensures.offset ∙ c.loop.invariant.1,
   λ rest left. c.in-Ok.ensures.reads rest (c.loop.invariant.2 rest left),
+  c.read.ensures.most ∙ c.loop.invariant.3,
 )
